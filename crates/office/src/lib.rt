@@ -1,0 +1,57 @@
+// One office: opened with limits, it answers calls. In this stage it can do none of them.
+ghost use mathlib.Core.Path.{_≡_};
+ghost use Rattle.parcels.specs.Book.{Book};
+ghost use Rattle.parcels.specs.Calls.{answered, after};
+ghost use Rattle.office.specs.Opening.{Opens, stage-limits};
+use parcels::Answer;
+use parcels::Call;
+use parcels::MAX_OFFICES;
+use parcels::MAX_PARCELS;
+use parcels::MIN_OFFICES;
+use parcels::Reason;
+use parcels::Refusal;
+
+// How many offices there are, this one's number among them, and how many parcels it ever has to do with.
+#[derive(Drop)]
+pub struct Office {
+    offices: u32,
+    own: u32,
+    parcels: u32,
+}
+
+impl Office {
+    pub fn open(offices: u32, own: u32, parcels: u32) -> Result<Office, Refusal>
+        ensures { λ r. ⌜ Opens offices own parcels r ⌝ }
+    {
+        if offices < MIN_OFFICES
+            || offices > MAX_OFFICES
+            || own >= offices
+            || parcels > MAX_PARCELS
+        {
+            return Err(Refusal {
+                reason: Reason::BadOpening,
+                place: 1,
+            });
+        }
+        Ok(Office {
+            offices,
+            own,
+            parcels,
+        })
+    }
+
+    // The answer is right whatever the office has in its book, and the book stays as it is.
+    pub fn call(&self, call: Call) -> Answer
+        ensures value { λ r. ⌜ ((b : Book) → r ≡ answered (stage-limits (now (self .entry) .offices) (now (self .entry) .parcels)) (now (self .entry) .own) b call) ⌝ }
+        ensures same { λ _. ⌜ ((b : Book) → after (stage-limits (now (self .entry) .offices) (now (self .entry) .parcels)) (now (self .entry) .own) b call ≡ b) ⌝ }
+    {
+        let place = match call {
+            Call::Send { .. } => 1,
+            _ => 0,
+        };
+        Answer::Refused(Refusal {
+            reason: Reason::OutOfRange,
+            place,
+        })
+    }
+}

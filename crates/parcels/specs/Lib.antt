@@ -1,0 +1,4 @@
+pub mod Numbers
+pub mod Book
+pub mod Calls
+pub mod Laws

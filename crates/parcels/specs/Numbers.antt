@@ -1,0 +1,68 @@
+-- The numbers by which calls, kinds of step, reasons and answers are known outside, and the limits.
+use Prim.Native.Nat.{ℕ}
+use Rattle.parcels.specs.declared.Kind.{Kind}
+use Rattle.parcels.specs.declared.Kind.the-variants.{Accepted, SentOn, ComeIn, HandedOut}
+use Rattle.parcels.specs.declared.Call.{Call}
+use Rattle.parcels.specs.declared.Call.the-variants.{Accept, Send, SlipAgain, TakeIn, HandOut, Pay, WhereIs, Here, Sums}
+use Rattle.parcels.specs.declared.Reason.{Reason}
+use Rattle.parcels.specs.declared.Reason.the-variants.{Unreadable, OutOfRange, BadOpening, NotHere, WrongSlip, OtherOffice, NothingToPay, PaidAlready, OverLimit}
+use Rattle.parcels.specs.declared.Answer.{Answer}
+use Rattle.parcels.specs.declared.Answer.the-variants.{Refused, Number, Given, At, NothingHeard, Two}
+
+-- how many offices a post has at least and at most, and how many parcels an office ever has to do with
+abbrev pub fewest-offices : ℕ
+fewest-offices = 2
+
+abbrev pub most-offices : ℕ
+most-offices = 16
+
+abbrev pub most-parcels : ℕ
+most-parcels = 65536
+
+-- the largest amount to be collected for a parcel
+abbrev pub most-amount : ℕ
+most-amount = 1000000
+
+-- a key is this many times the number of the office that accepted the parcel, plus how many it accepted before
+abbrev pub keys-of-an-office : ℕ
+keys-of-an-office = 65536
+
+-- what a step did with its parcel
+abbrev pub kind-number : Kind → ℕ
+kind-number Accepted = 0
+kind-number SentOn = 1
+kind-number ComeIn = 2
+kind-number HandedOut = 3
+
+-- a call's first byte
+abbrev pub call-number : Call → ℕ
+call-number (Accept dest amount) = 0
+call-number (Send key to) = 1
+call-number (SlipAgain key) = 2
+call-number (TakeIn slip) = 3
+call-number (HandOut key) = 4
+call-number (Pay key) = 5
+call-number (WhereIs key) = 6
+call-number (Here from) = 7
+call-number Sums = 8
+
+-- why a call is turned away
+abbrev pub reason-number : Reason → ℕ
+reason-number Unreadable = 1
+reason-number OutOfRange = 2
+reason-number BadOpening = 3
+reason-number NotHere = 4
+reason-number WrongSlip = 5
+reason-number OtherOffice = 6
+reason-number NothingToPay = 7
+reason-number PaidAlready = 8
+reason-number OverLimit = 9
+
+-- an answer's first byte
+abbrev pub answer-number : Answer → ℕ
+answer-number (Refused refusal) = 0
+answer-number (Number n) = 1
+answer-number (Given slip) = 2
+answer-number (At step) = 3
+answer-number NothingHeard = 4
+answer-number (Two m n) = 5
