@@ -79,7 +79,7 @@ given s [] = ⊥
 given s (x ∷ xs) = (x .answer ≡ Given s) ⊎ given s xs
 
 -- a clerk takes a parcel in only with a slip that was given out
-unfoldable pub slip-known : Call → List Said → Type 0
+abbrev pub slip-known : Call → List Said → Type 0
 slip-known (Accept dest amount) xs = Unit {0}
 slip-known (Send key to) xs = Unit {0}
 slip-known (SlipAgain key) xs = Unit {0}
@@ -99,7 +99,7 @@ abbrev pub field : ℕ → Bool
 field n = ltb n 4294967296
 
 -- a call whose numbers its fields can carry
-unfoldable pub readable : Call → Bool
+abbrev pub readable : Call → Bool
 readable (Accept dest amount) = field dest && field amount
 readable (Send key to) = field key && field to
 readable (SlipAgain key) = field key

@@ -1,0 +1,2 @@
+mod Journal
+pub mod Stage

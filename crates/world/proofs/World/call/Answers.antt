@@ -1,0 +1,37 @@
+use borrow.Author.Needs.{needs}
+use mathlib.Core.Path.{_≡_, refl, sym, _∙_}
+use mathlib.Core.Bool.{true}
+use Prim.Native.Nat.{_<_}
+use native.Mathlib.Omega.{arith}
+use Rattle.std.specs.Results.{isOk}
+use Rattle.std.specs.Of.Vec.{vec-len, vec-items}
+use Rattle.promises.specs.World.{readable}
+use Rattle.world.proofs.Stage.{right, goes-on-if}
+use Rattle.world.proofs.World.call.Needs as need
+
+there : (c : need.After-push) → c .args .at < vec-len (c .args .self .now .offices)
+there c = omega (arith, c .len .ensures)
+
+pub ghost-self : need.ghost-self
+ghost-self c = (
+  c .args .self .now .numbered,
+  (
+    goes-on-if (isOk (c .push .result)) (vec-len (c .args .self .now .offices)) (c .args .self .now .parcels) (c .args .at) (vec-items (c .args .self .now .journal)) (vec-items (c .push .last .self))
+        (c .args .call) (c .call-answer .result) (c .push .ensures .items) (there c) (sym (c .is-readable .ensures) ∙ c .if-not-is-readable .left)
+        (c .slip-is-known .ensures .0 (c .if-not-slip-is-known .left)) (c .call-answer .ensures .value) (c .args .self .now .lived),
+    tt,
+  ),
+)
+
+pub returns : need.returns
+returns c =
+    record {
+      value = (
+        omega (arith, c .len .ensures),
+        sym (c .is-readable .ensures) ∙ c .if-not-is-readable .left,
+        c .slip-is-known .ensures .0 (c .if-not-slip-is-known .left),
+        right (vec-len (c .args .self .now .offices)) (c .args .self .now .parcels) (c .args .at) _ (c .args .call) (c .call-answer .result) (c .call-answer .ensures .value),
+        c .in-Ok .ensures tt .items,
+      );
+      same = (refl, refl);
+    }

@@ -1,0 +1,3 @@
+pub mod Ours
+pub mod Opening
+pub mod Outcome

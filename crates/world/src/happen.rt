@@ -1,0 +1,158 @@
+// The things that can happen in a world.
+ghost use mathlib.Core.Path.{_≡_};
+ghost use mathlib.Core.Bool.{true, false};
+ghost use mathlib.Core.List.{[]};
+ghost use Prim.Native.Nat.{ℕ};
+ghost use Rattle.std.specs.Of.Vec.{vec-len, vec-items};
+ghost use Rattle.std.specs.Orderings.{Decides};
+ghost use Rattle.std.specs.declared.result.Result.the-variants.{Ok, Err};
+ghost use Rattle.parcels.specs.declared.Answer.the-variants.{Given};
+ghost use Rattle.office.specs.Opening.{stage-limits};
+ghost use Rattle.promises.specs.World.{given, slip-known, readable};
+ghost use Rattle.world.specs.declared.CannotHappen.the-variants.{NeverSent};
+ghost use Rattle.world.specs.Ours.{history};
+ghost use Rattle.world.specs.Opening.{Opens};
+ghost use Rattle.world.specs.Outcome.{Called, At-office, not-read-yet};
+use crate::CannotHappen;
+use crate::Exchange;
+use crate::World;
+use office::Office;
+use parcels::Answer;
+use parcels::Call;
+use parcels::Reason;
+use parcels::Refusal;
+use parcels::Slip;
+use parcels::SlipPartialEq;
+use std::alloc::AllocError;
+use std::alloc::Global;
+use std::alloc::Refused;
+
+// Whether an answer gives this slip out.
+fn gives(answer: Answer, slip: Slip) -> bool
+    ensures { λ r. ⌜ Decides r (answer ≡ Given slip) ⌝ }
+{
+    match answer {
+        Answer::Given(given) => given == slip,
+        _ => false,
+    }
+}
+
+// Whether the fields of a call, four bytes each, can carry it: all numbers but a slip's step always fit.
+fn is_readable(call: Call) -> bool
+    ensures { λ r. ⌜ r ≡ readable call ⌝ }
+{
+    match call {
+        Call::TakeIn { slip } => slip.step < 4_294_967_296,
+        _ => true,
+    }
+}
+
+impl World {
+    // A post with so many offices, each opened with this limit of parcels.
+    pub fn open(heap: Global, offices: u32, parcels: u32) -> Result<World, CannotHappen>
+        ensures { λ r. ⌜ Opens offices parcels r ⌝ }
+    {
+        let mut opened = Vec::new(heap);
+        // with no office at all, office 0 is tried and refused
+        for own in 0..offices.max(1) {
+            let Ok(office) = Office::open(offices, own, parcels) else {
+                return Err(CannotHappen::BadLimits);
+            };
+            let Ok(()) = opened.push(office) else {
+                return Err(CannotHappen::NoMemory);
+            };
+        }
+        Ok(World {
+            parcels,
+            offices: opened,
+            journal: Vec::new(heap),
+        })
+    }
+
+    // Whether this slip was given out.
+    fn was_given(&self, slip: Slip) -> bool
+        ensures { λ r. ⌜ Decides r (given slip (history (vec-items (now (self .entry) .journal)))) ⌝ }
+    {
+        for said in self.journal.iter() {
+            if gives(said.answer, slip) {
+                return true;
+            }
+        }
+        false
+    }
+
+    // Whether the slip that a call comes with, if it is one with a slip, was given out.
+    fn slip_is_known(&self, call: Call) -> bool
+        ensures { λ r. ⌜ Decides r (slip-known call (history (vec-items (now (self .entry) .journal)))) ⌝ }
+    {
+        match call {
+            Call::TakeIn { slip } => self.was_given(slip),
+            _ => true,
+        }
+    }
+
+    // How many offices there are.
+    pub fn offices(&self) -> usize
+        ensures { λ r. ⌜ r ≡ vec-len (now (self .entry) .offices) ⌝ }
+    {
+        self.offices.len()
+    }
+
+    // How many letters were sent: none, in this stage.
+    pub fn letters(&self) -> usize
+        ensures { λ r. ⌜ r ≡ 0 ⌝ }
+    {
+        0
+    }
+
+    // A row of bytes is handed to an office as a call.
+    pub fn bytes(&self, at: u32, _row: &[u8]) -> Result<Answer, CannotHappen>
+        ensures { λ r. ⌜ At-office (vec-len (now (self .entry) .offices)) at not-read-yet r ⌝ }
+    {
+        if at as usize >= self.offices.len() {
+            return Err(CannotHappen::NoOffice);
+        }
+        Ok(Answer::Refused(Refusal {
+            reason: Reason::OutOfRange,
+            place: 0,
+        }))
+    }
+
+    // An office's clock ticks: nothing comes of it, in this stage.
+    pub fn tick(&self, at: u32) -> Result<(), CannotHappen>
+        ensures { λ r. ⌜ At-office (vec-len (now (self .entry) .offices)) at tt r ⌝ }
+    {
+        if at as usize >= self.offices.len() {
+            return Err(CannotHappen::NoOffice);
+        }
+        Ok(())
+    }
+
+    // A letter comes, by its number among all that were sent: none was, in this stage.
+    pub fn hear(&self, _letter: u32) -> Result<(), CannotHappen>
+        ensures { λ r. ⌜ r ≡ Err NeverSent ⌝ }
+    {
+        Err(CannotHappen::NeverSent)
+    }
+
+    // A clerk makes a call at an office.
+    pub fn call(&mut self, at: u32, call: Call) -> Result<Answer, CannotHappen>
+        ensures value { λ r. ⌜ Called (stage-limits (vec-len (now (self .entry) .offices)) (now (self .entry) .parcels)) (vec-items (now (self .entry) .journal)) at call r (vec-items (now (self .exit) .journal)) ⌝ }
+        ensures same { λ _. ⌜ (now (self .exit) .parcels ≡ now (self .entry) .parcels) × (now (self .exit) .offices ≡ now (self .entry) .offices) ⌝ }
+    {
+        if at as usize >= self.offices.len() {
+            return Err(CannotHappen::NoOffice);
+        }
+        if !is_readable(call) {
+            return Err(CannotHappen::NoSuchCall);
+        }
+        if !self.slip_is_known(call) {
+            return Err(CannotHappen::NeverGiven);
+        }
+        let answer = self.offices[at as usize].call(call);
+        let Ok(()) = self.journal.push(Exchange { at, call, answer }) else {
+            return Err(CannotHappen::NoMemory);
+        };
+        Ok(answer)
+    }
+}
