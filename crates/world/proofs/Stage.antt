@@ -5,31 +5,44 @@ use mathlib.Core.Bool.{Bool, true, false, cond}
 use mathlib.Core.List.{List, [], _∷_, _++_}
 use Prim.Native.Nat.{ℕ, _<_}
 use lib.Dec.{eqb}
+use Rattle.std.specs.declared.option.Option.the-variants.{Some}
 use Rattle.std.specs.declared.result.Result.the-variants.{Ok}
+use Rattle.parcels.specs.Numbers.{call-number}
 use Rattle.parcels.specs.Book.{pick, Book}
-use Rattle.parcels.specs.Calls.{answered}
+use Rattle.parcels.specs.Calls.{Limits, nothing, turned, refusal, told, answered, unless}
+use Rattle.parcels.specs.declared.Reason.the-variants.{OutOfRange}
 use Rattle.parcels.specs.declared.Call.{Call}
 use Rattle.parcels.specs.declared.Call.the-variants.{Accept, Send, SlipAgain, TakeIn, HandOut, Pay, WhereIs, Here, Sums}
 use Rattle.parcels.specs.declared.Answer.{Answer}
+use Rattle.parcels.specs.declared.Answer.the-variants.{Refused}
 use Rattle.office.specs.Opening.{stage-limits}
 use Rattle.promises.specs.World.{Memory, Said, World, Lived, called, opened, readable, slip-known, with-memory}
-use Rattle.promises.specs.Promise.{Right-answer, Right-pay, Right-where, truth}
+use Rattle.promises.specs.Promise.{Right-answer, Right-pay, Right-where}
 use Rattle.world.specs.declared.Exchange.{Exchange}
 use Rattle.world.specs.Ours.{ours, history, world-of}
 use Rattle.world.proofs.Journal.{said-of, history-push}
 
+-- in this stage each call is out of range, whatever the book
+pub turned-away : (l : Limits) (o : ℕ) (b : Book) (c : Call) → ((k : ℕ) → l .can k ≡ nothing k) → turned l o b c ≡ Some OutOfRange
+turned-away l o b c g = rw (g (call-number c))
+
+pub refused : (l : Limits) (o : ℕ) (b : Book) (c : Call) (a : Answer) → ((k : ℕ) → l .can k ≡ nothing k) → a ≡ answered l o b c → a ≡ Refused (refusal c OutOfRange)
+refused l o b c a g h = h ∙ ap (λ t. unless t (told o b c) (λ r. Refused (refusal c r))) (turned-away l o b c g)
+
 -- what is answered, whatever is in the book, is right by any history
-pub right : (n p o : ℕ) (xs : List Said) (c : Call) (a : Answer) → ((b : Book) → a ≡ answered (stage-limits n p) o b c) → Right-answer (stage-limits n p) xs o c a
+pub right : (l : Limits) (xs : List Said) (o : ℕ) (c : Call) (a : Answer) → ((k : ℕ) → l .can k ≡ nothing k) → ((b : Book) → a ≡ answered l o b c) → Right-answer l xs o c a
 unfolding Right-pay Right-where
-right n p o xs (Accept dest amount) a h = h []
-right n p o xs (Send key to) a h = h []
-right n p o xs (SlipAgain key) a h = h []
-right n p o xs (TakeIn s) a h = h []
-right n p o xs (HandOut key) a h = h []
-right n p o xs (Pay key) a h = subst (λ (z : Answer). Right-pay (stage-limits n p) xs o key z) (sym (h [])) (inr (refl, refl))
-right n p o xs (WhereIs key) a h = subst (λ (z : Answer). Right-where (stage-limits n p) xs o key z) (sym (h [])) (refl, refl)
-right n p o xs (Here from) a h = h []
-right n p o xs Sums a h = h []
+right l xs o (Accept dest amount) a g h = h _
+right l xs o (Send key to) a g h = h _
+right l xs o (SlipAgain key) a g h = h _
+right l xs o (TakeIn s) a g h = h _
+right l xs o (HandOut key) a g h = h _
+right l xs o (Pay key) a g h =
+    subst (λ (z : Answer). Right-pay l xs o key z) (sym (refused l o [] (Pay key) a g (h []))) (inr (turned-away l o _ (Pay key) g, refl))
+right l xs o (WhereIs key) a g h =
+    subst (λ (z : Answer). Right-where l xs o key z) (sym (refused l o [] (WhereIs key) a g (h []))) (turned-away l o _ (WhereIs key) g, refl)
+right l xs o (Here from) a g h = h _
+right l xs o Sums a g h = h _
 
 -- no office has memory, and so none after a change of one
 nowhere : (o : ℕ) → with-memory (λ q. []) o [] ≡ (λ q. [])

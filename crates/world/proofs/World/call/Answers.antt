@@ -5,6 +5,7 @@ use Prim.Native.Nat.{_<_}
 use native.Mathlib.Omega.{arith}
 use Rattle.std.specs.Results.{isOk}
 use Rattle.std.specs.Of.Vec.{vec-len, vec-items}
+use Rattle.office.specs.Opening.{stage-limits}
 use Rattle.promises.specs.World.{readable}
 use Rattle.world.proofs.Stage.{right, goes-on-if}
 use Rattle.world.proofs.World.call.Needs as need
@@ -30,7 +31,7 @@ returns c =
         omega (arith, c .len .ensures),
         sym (c .is-readable .ensures) ∙ c .if-not-is-readable .left,
         c .slip-is-known .ensures .0 (c .if-not-slip-is-known .left),
-        right (vec-len (c .args .self .now .offices)) (c .args .self .now .parcels) (c .args .at) _ (c .args .call) (c .call-answer .result) (c .call-answer .ensures .value),
+        right (stage-limits (vec-len (c .args .self .now .offices)) (c .args .self .now .parcels)) _ (c .args .at) (c .args .call) (c .call-answer .result) (λ k. refl) (c .call-answer .ensures .value),
         c .in-Ok .ensures tt .items,
       );
       same = (refl, refl);
