@@ -1,3 +1,4 @@
 pub mod Ours
+pub mod View
 pub mod Opening
 pub mod Outcome

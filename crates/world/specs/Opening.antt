@@ -5,15 +5,15 @@ use mathlib.Core.List.{[]}
 use Prim.Native.Nat.{ℕ}
 use Rattle.std.specs.declared.result.Result.{Result}
 use Rattle.std.specs.declared.result.Result.the-variants.{Ok, Err}
-use Rattle.std.specs.Of.Vec.{vec-len, vec-items}
-use Rattle.office.specs.Opening.{in-range}
+use Rattle.office.specs.Opening.{in-range, stage-limits}
 use Rattle.world.specs.declared.CannotHappen.{CannotHappen}
 use Rattle.world.specs.declared.CannotHappen.the-variants.{BadLimits, NoOffice, NoSuchCall, NeverGiven, NeverSent, NoMemory}
 use Rattle.world.specs.declared.World.{World}
+use Rattle.world.specs.View.{limits-of, journal-of}
 
 -- where an office can be opened with these limits, all are, and nothing was said yet
 abbrev pub Opens : ℕ → ℕ → Result World CannotHappen → Type 0
-Opens offices parcels (Ok w) = (in-range offices 0 parcels ≡ true) × (vec-len (w .offices) ≡ offices) × (w .parcels ≡ parcels) × (vec-items (w .journal) ≡ [])
+Opens offices parcels (Ok w) = (in-range offices 0 parcels ≡ true) × (limits-of w ≡ stage-limits offices parcels) × (journal-of w ≡ [])
 Opens offices parcels (Err BadLimits) = in-range offices 0 parcels ≡ false
 Opens offices parcels (Err NoMemory) = in-range offices 0 parcels ≡ true
 Opens offices parcels (Err NoOffice) = ⊥

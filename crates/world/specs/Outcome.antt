@@ -3,8 +3,10 @@ use mathlib.Core.Path.{_≡_}
 use mathlib.Core.Bool.{true, false}
 use mathlib.Core.List.{List, [], _∷_, _++_}
 use Prim.Native.Nat.{ℕ, _<_, _≤_}
+use lib.Dec.{ltb}
 use Rattle.std.specs.declared.result.Result.{Result}
 use Rattle.std.specs.declared.result.Result.the-variants.{Ok, Err}
+use Rattle.parcels.specs.Book.{pick}
 use Rattle.parcels.specs.Calls.{Limits}
 use Rattle.parcels.specs.declared.Reason.the-variants.{OutOfRange}
 use Rattle.parcels.specs.declared.Refusal.{Refusal}
@@ -35,6 +37,6 @@ Called l xs o c (Err NeverSent) ys = ⊥
 abbrev pub not-read-yet : Answer
 not-read-yet = Refused (record { reason = OutOfRange; place = 0 })
 
--- a thing that happens at an office happens only where the office is there
-abbrev pub At-office : {X : Type 0} → ℕ → ℕ → X → Result X CannotHappen → Type 0
-At-office offices o x r = (o < offices → r ≡ Ok x) × (offices ≤ o → r ≡ Err NoOffice)
+-- what can happen at an office happens only where the office is there
+abbrev pub at-office : {X : Type 0} → ℕ → ℕ → X → Result X CannotHappen
+at-office offices o x = pick (ltb o offices) (Ok x) (Err NoOffice)

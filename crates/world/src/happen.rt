@@ -3,16 +3,15 @@ ghost use mathlib.Core.Path.{_≡_};
 ghost use mathlib.Core.Bool.{true, false};
 ghost use mathlib.Core.List.{[]};
 ghost use Prim.Native.Nat.{ℕ};
-ghost use Rattle.std.specs.Of.Vec.{vec-len, vec-items};
 ghost use Rattle.std.specs.Orderings.{Decides};
 ghost use Rattle.std.specs.declared.result.Result.the-variants.{Ok, Err};
 ghost use Rattle.parcels.specs.declared.Answer.the-variants.{Given};
-ghost use Rattle.office.specs.Opening.{stage-limits};
 ghost use Rattle.promises.specs.World.{given, slip-known, readable};
 ghost use Rattle.world.specs.declared.CannotHappen.the-variants.{NeverSent};
 ghost use Rattle.world.specs.Ours.{history};
 ghost use Rattle.world.specs.Opening.{Opens};
-ghost use Rattle.world.specs.Outcome.{Called, At-office, not-read-yet};
+ghost use Rattle.world.specs.Outcome.{Called, at-office, not-read-yet};
+ghost use Rattle.world.specs.View.{limits-of, journal-of};
 use crate::CannotHappen;
 use crate::Exchange;
 use crate::World;
@@ -71,7 +70,7 @@ impl World {
 
     // Whether this slip was given out.
     fn was_given(&self, slip: Slip) -> bool
-        ensures { λ r. ⌜ Decides r (given slip (history (vec-items (now (self .entry) .journal)))) ⌝ }
+        ensures { λ r. ⌜ Decides r (given slip (history (journal-of (now (self .entry))))) ⌝ }
     {
         for said in self.journal.iter() {
             if gives(said.answer, slip) {
@@ -83,7 +82,7 @@ impl World {
 
     // Whether the slip that a call comes with, if it is one with a slip, was given out.
     fn slip_is_known(&self, call: Call) -> bool
-        ensures { λ r. ⌜ Decides r (slip-known call (history (vec-items (now (self .entry) .journal)))) ⌝ }
+        ensures { λ r. ⌜ Decides r (slip-known call (history (journal-of (now (self .entry))))) ⌝ }
     {
         match call {
             Call::TakeIn { slip } => self.was_given(slip),
@@ -92,14 +91,14 @@ impl World {
     }
 
     // How many offices there are.
-    pub fn offices(&self) -> usize
-        ensures { λ r. ⌜ r ≡ vec-len (now (self .entry) .offices) ⌝ }
+    pub fn offices(&self) -> u32
+        ensures { λ r. ⌜ r ≡ limits-of (now (self .entry)) .offices ⌝ }
     {
-        self.offices.len()
+        self.offices.len() as u32
     }
 
     // How many letters were sent: none, in this stage.
-    pub fn letters(&self) -> usize
+    pub fn letters(&self) -> u32
         ensures { λ r. ⌜ r ≡ 0 ⌝ }
     {
         0
@@ -107,7 +106,7 @@ impl World {
 
     // A row of bytes is handed to an office as a call.
     pub fn bytes(&self, at: u32, _row: &[u8]) -> Result<Answer, CannotHappen>
-        ensures { λ r. ⌜ At-office (vec-len (now (self .entry) .offices)) at not-read-yet r ⌝ }
+        ensures { λ r. ⌜ r ≡ at-office (limits-of (now (self .entry)) .offices) at not-read-yet ⌝ }
     {
         if at as usize >= self.offices.len() {
             return Err(CannotHappen::NoOffice);
@@ -120,7 +119,7 @@ impl World {
 
     // An office's clock ticks: nothing comes of it, in this stage.
     pub fn tick(&self, at: u32) -> Result<(), CannotHappen>
-        ensures { λ r. ⌜ At-office (vec-len (now (self .entry) .offices)) at tt r ⌝ }
+        ensures { λ r. ⌜ r ≡ at-office (limits-of (now (self .entry)) .offices) at tt ⌝ }
     {
         if at as usize >= self.offices.len() {
             return Err(CannotHappen::NoOffice);
@@ -137,8 +136,8 @@ impl World {
 
     // A clerk makes a call at an office.
     pub fn call(&mut self, at: u32, call: Call) -> Result<Answer, CannotHappen>
-        ensures value { λ r. ⌜ Called (stage-limits (vec-len (now (self .entry) .offices)) (now (self .entry) .parcels)) (vec-items (now (self .entry) .journal)) at call r (vec-items (now (self .exit) .journal)) ⌝ }
-        ensures same { λ _. ⌜ (now (self .exit) .parcels ≡ now (self .entry) .parcels) × (now (self .exit) .offices ≡ now (self .entry) .offices) ⌝ }
+        ensures value { λ r. ⌜ Called (limits-of (now (self .entry))) (journal-of (now (self .entry))) at call r (journal-of (now (self .exit))) ⌝ }
+        ensures same { λ _. ⌜ limits-of (now (self .exit)) ≡ limits-of (now (self .entry)) ⌝ }
     {
         if at as usize >= self.offices.len() {
             return Err(CannotHappen::NoOffice);

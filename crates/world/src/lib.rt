@@ -1,9 +1,10 @@
 // The world of offices and lines: what can happen happens here, one thing at a time, and each answer is right.
 ghost use mathlib.Core.Path.{_≡_};
+ghost use mathlib.Core.Bool.{true};
 ghost use Prim.Native.Nat.{ℕ, _<_};
 ghost use lib.ListN.{getD};
 ghost use Rattle.std.specs.Of.Vec.{vec-len, vec-items};
-ghost use Rattle.office.specs.Opening.{stage-limits};
+ghost use Rattle.office.specs.Opening.{stage-limits, in-range};
 ghost use Rattle.office.specs.declared.Office.{Office};
 ghost use Rattle.promises.specs.World.{Lived};
 ghost use Rattle.world.specs.Ours.{ours, world-of, office-at};
@@ -41,6 +42,7 @@ pub struct World {
     parcels: u32,
     offices: Vec<Office>,
     journal: Vec<Exchange>,
+    ghost good: { in-range (vec-len offices) 0 parcels ≡ true },
     ghost numbered: { ∥ ((k : ℕ) (d : Office) → k < vec-len offices → getD (vec-items offices) k d ≡ office-at (vec-len offices) k parcels) ∥₁ },
     ghost lived: { ∥ Lived ours (stage-limits (vec-len offices) parcels) (world-of (vec-items journal)) ∥₁ },
 }

@@ -15,12 +15,15 @@ there c = omega (arith, c .len .ensures)
 
 pub ghost-self : need.ghost-self
 ghost-self c = (
-  c .args .self .now .numbered,
+  c .args .self .now .good,
   (
-    goes-on-if (isOk (c .push .result)) (vec-len (c .args .self .now .offices)) (c .args .self .now .parcels) (c .args .at) (vec-items (c .args .self .now .journal)) (vec-items (c .push .last .self))
-        (c .args .call) (c .call-answer .result) (c .push .ensures .items) (there c) (sym (c .is-readable .ensures) ∙ c .if-not-is-readable .left)
-        (c .slip-is-known .ensures .0 (c .if-not-slip-is-known .left)) (c .call-answer .ensures .value) (c .args .self .now .lived),
-    tt,
+    c .args .self .now .numbered,
+    (
+      goes-on-if (isOk (c .push .result)) (vec-len (c .args .self .now .offices)) (c .args .self .now .parcels) (c .args .at) (vec-items (c .args .self .now .journal)) (vec-items (c .push .last .self))
+          (c .args .call) (c .call-answer .result) (c .push .ensures .items) (there c) (sym (c .is-readable .ensures) ∙ c .if-not-is-readable .left)
+          (c .slip-is-known .ensures .0 (c .if-not-slip-is-known .left)) (c .call-answer .ensures .value) (c .args .self .now .lived),
+      tt,
+    ),
   ),
 )
 
@@ -34,5 +37,5 @@ returns c =
         right (stage-limits (vec-len (c .args .self .now .offices)) (c .args .self .now .parcels)) _ (c .args .at) (c .args .call) (c .call-answer .result) (λ k. refl) (c .call-answer .ensures .value),
         c .in-Ok .ensures tt .items,
       );
-      same = (refl, refl);
+      same = refl;
     }

@@ -31,12 +31,20 @@ loop-own-again c = (
 )
 
 -- all are open, where the first could be
-all-open : (n p i m : ℕ) → m ≡ max n 1 → m ≤ i → i ≤ m → (0 < i → in-range n 0 p ≡ true) → i ≡ n
-all-open n p i m e h g r = let k : in-range n 0 p ≡ true = r (grind (arith, tells)) in grind (arith, tells)
+all-open : (n p i m : ℕ) → m ≡ max n 1 → m ≤ i → i ≤ m → (0 < i → in-range n 0 p ≡ true) → (i ≡ n) × (in-range n 0 p ≡ true)
+all-open n p i m e h g r = let k : in-range n 0 p ≡ true = r (grind (arith, tells)) in (grind (arith, tells), k)
+
+whole : (c : need.After-new) → (vec-len (c .loop-own .opened) ≡ c .args .offices) × (in-range (c .args .offices) 0 (c .args .parcels) ≡ true)
+whole c =
+    let all = all-open (c .args .offices) (c .args .parcels) (c .loop-own .own) (c .max-own-end .result) (c .max-own-end .ensures) (c .loop-own-test .left) (c .loop-own .kept .own-end) (c .loop-own .inv .2) in
+    (c .loop-own .inv .0 ∙ all .0, all .1)
 
 pub ghost-result : need.ghost-result
 ghost-result c =
-    let all : vec-len (c .loop-own .opened) ≡ c .args .offices = c .loop-own .inv .0 ∙ all-open (c .args .offices) (c .args .parcels) (c .loop-own .own) (c .max-own-end .result) (c .max-own-end .ensures) (c .loop-own-test .left) (c .loop-own .kept .own-end) (c .loop-own .inv .2) in (
-      ∣ (λ k d h. rw all (c .loop-own .inv .1 k d (omega (arith, c .loop-own .inv .0)))) ∣₁,
-      (begins (vec-len (c .loop-own .opened)) (c .args .parcels) (vec-items (c .new .result)) (c .new .ensures .items), tt),
+    let all : vec-len (c .loop-own .opened) ≡ c .args .offices = whole c .0 in (
+      rw all (whole c .1),
+      (
+        ∣ (λ k d h. rw all (c .loop-own .inv .1 k d (omega (arith, c .loop-own .inv .0)))) ∣₁,
+        (begins (vec-len (c .loop-own .opened)) (c .args .parcels) (vec-items (c .new .result)) (c .new .ensures .items), tt),
+      ),
     )

@@ -1,0 +1,2 @@
+pub mod Cut
+pub mod Happen

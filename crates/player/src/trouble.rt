@@ -1,0 +1,63 @@
+// What ends the playing of a world before its file does.
+ghost use mathlib.Core.Path.{_≡_};
+ghost use Rattle.player.specs.declared.trouble.Stop.the-variants.{Bad};
+ghost use Rattle.player.specs.declared.trouble.Trouble.the-variants.{Impossible};
+use std::fmt;
+use text::Fault;
+use text::FaultDisplay;
+use world::CannotHappen;
+
+// The most letters that are sent in a world that is played.
+pub const MAX_LETTERS: u32 = 256;
+
+// The most offices of a world that is played, and the most parcels of each.
+pub const MAX_OFFICES: u32 = 4;
+pub const MAX_PARCELS: u32 = 64;
+
+// What is wrong with a line.
+#[derive(Drop)]
+pub enum Trouble {
+    Unread(Fault),
+    NotOpened,
+    OpenedAgain,
+    TooLarge,
+    Impossible(CannotHappen),
+}
+
+// Why playing stops.
+#[derive(Drop)]
+pub enum Stop {
+    BudgetSpent,
+    TooManyLetters,
+    Bad(Trouble),
+}
+
+pub impl From<CannotHappen> for Stop as StopFromCannot {
+    ghost converts = { λ e r. r ≡ Bad (Impossible e) };
+
+    fn from(e: CannotHappen) -> Stop {
+        Stop::Bad(Trouble::Impossible(e))
+    }
+}
+
+pub impl fmt::Display for Trouble as TroubleDisplay {
+    fn fmt<W: fmt::Write>(&self, f: &mut fmt::Formatter<W>) -> fmt::Result {
+        match self {
+            Trouble::Unread(fault) => write!(f, "{fault}"),
+            Trouble::NotOpened => write!(f, "expected a line such as '3 offices, 8 parcels' first"),
+            Trouble::OpenedAgain => write!(f, "the offices are open already"),
+            Trouble::TooLarge => write!(f, "expected 2 to {MAX_OFFICES} offices and at most {MAX_PARCELS} parcels"),
+            Trouble::Impossible(e) => {
+                let text = match e {
+                    CannotHappen::BadLimits => "expected 2 to 4 offices and at most 64 parcels",
+                    CannotHappen::NoOffice => "an office that is not there",
+                    CannotHappen::NoSuchCall => "a call that no bytes can carry",
+                    CannotHappen::NeverGiven => "a slip that was never given out",
+                    CannotHappen::NeverSent => "a letter that was never sent",
+                    CannotHappen::NoMemory => "no memory left",
+                };
+                write!(f, "{text}")
+            }
+        }
+    }
+}
