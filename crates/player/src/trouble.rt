@@ -20,7 +20,6 @@ pub enum Trouble {
     Unread(Fault),
     NotOpened,
     OpenedAgain,
-    TooLarge,
     Impossible(CannotHappen),
 }
 
@@ -40,13 +39,18 @@ pub impl From<CannotHappen> for Stop as StopFromCannot {
     }
 }
 
+pub impl From<Fault> for Stop as StopFromFault {
+    fn from(e: Fault) -> Stop {
+        Stop::Bad(Trouble::Unread(e))
+    }
+}
+
 pub impl fmt::Display for Trouble as TroubleDisplay {
     fn fmt<W: fmt::Write>(&self, f: &mut fmt::Formatter<W>) -> fmt::Result {
         match self {
             Trouble::Unread(fault) => write!(f, "{fault}"),
             Trouble::NotOpened => write!(f, "expected a line such as '3 offices, 8 parcels' first"),
             Trouble::OpenedAgain => write!(f, "the offices are open already"),
-            Trouble::TooLarge => write!(f, "expected 2 to {MAX_OFFICES} offices and at most {MAX_PARCELS} parcels"),
             Trouble::Impossible(e) => {
                 let text = match e {
                     CannotHappen::BadLimits => "expected 2 to 4 offices and at most 64 parcels",

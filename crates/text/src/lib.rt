@@ -163,7 +163,7 @@ fn read_send(reader: &mut Reader) -> Result<Call, Fault> {
     let key = reader.number()?;
     reader.expect(b"to", "'to'")?;
     let to = reader.number()?;
-    Ok(Call::Send { key: to, to: key })
+    Ok(Call::Send { key, to })
 }
 
 // take in 0: 1 0 1 2 50, where the numbers are key, step, from, to, dest and amount

@@ -1,0 +1,115 @@
+// What playing a world file comes to, as text.
+use crate::happen::Player;
+use crate::lines::Lines;
+use crate::trouble::MAX_LETTERS;
+use crate::trouble::MAX_OFFICES;
+use crate::trouble::MAX_PARCELS;
+use crate::trouble::Stop;
+use crate::trouble::StopFromCannot;
+use crate::trouble::StopFromFault;
+use crate::trouble::Trouble;
+use parcels::Answer;
+use std::alloc::Global;
+use std::fmt::Write;
+use text::AnswerText;
+use text::AnswerTextDisplay;
+use text::Line;
+use text::read_line;
+use world::CannotHappen;
+use world::World;
+
+// How many things happen in a world at most.
+pub const BUDGET: u32 = 65_536;
+
+// How a file came to its end: all of it was done, or as far as letters and budget allow; or a line is bad.
+#[derive(Drop)]
+pub enum End {
+    Done,
+    Bad { line: u64, trouble: Trouble },
+}
+
+// What is shown of a file, and how it came to its end.
+#[derive(Drop)]
+pub struct Report {
+    pub shown: String,
+    pub end: End,
+}
+
+// Opens the world that the first line that is not blank asks for. None where there is no such line.
+fn open(heap: Global, lines: &mut Lines) -> Result<Option<World>, Stop> {
+    while let Some(line) = lines.next() {
+        match read_line(heap, line)? {
+            Line::Blank => {}
+            Line::Opening { offices, parcels } => {
+                if offices > MAX_OFFICES || parcels > MAX_PARCELS {
+                    return Err(Stop::Bad(Trouble::Impossible(CannotHappen::BadLimits)));
+                }
+                return Ok(Some(World::open(heap, offices, parcels)?));
+            }
+            _ => return Err(Stop::Bad(Trouble::NotOpened)),
+        }
+    }
+    Ok(None)
+}
+
+// Writes an answer as a line.
+fn show(answer: Answer, shown: &mut String) -> Result<(), Stop> {
+    let Ok(()) = writeln!(shown, "{}", AnswerText(answer)) else {
+        return Err(Stop::Bad(Trouble::Impossible(CannotHappen::NoMemory)));
+    };
+    Ok(())
+}
+
+// Lets happen what the lines say, and writes the answers.
+fn run(heap: Global, lines: &mut Lines, budget: u32, shown: &mut String) -> Result<(), Stop> {
+    let Some(world) = open(heap, lines)? else {
+        return Ok(());
+    };
+    let mut player = Player::new(world, budget);
+    while let Some(line) = lines.next() {
+        if let Some(answer) = player.happen(read_line(heap, line)?)? {
+            show(answer, shown)?;
+        }
+    }
+    Ok(())
+}
+
+// Why a world stopped, as a line, where no line of its file is to blame.
+fn show_stop(what: &str, most: u32, shown: &mut String) -> Result<(), Stop> {
+    let Ok(()) = writeln!(shown, "stopped: more than {most} {what}") else {
+        return Err(Stop::Bad(Trouble::Impossible(CannotHappen::NoMemory)));
+    };
+    Ok(())
+}
+
+// The report of a run that stopped so, or did not, at this line.
+fn conclude(ran: Result<(), Stop>, line: u64, budget: u32, mut shown: String) -> Report {
+    let ended = match ran {
+        Ok(()) => Ok(()),
+        Err(Stop::TooManyLetters) => show_stop("letters were sent", MAX_LETTERS, &mut shown),
+        Err(Stop::BudgetSpent) => show_stop("things happened", budget, &mut shown),
+        Err(stop) => Err(stop),
+    };
+    let end = match ended {
+        Err(Stop::Bad(trouble)) => End::Bad { line, trouble },
+        _ => End::Done,
+    };
+    Report { shown, end }
+}
+
+// Plays a world file in which at most so many things happen: an answer for each call.
+pub fn play(heap: Global, file: &[u8], budget: u32) -> Report {
+    let mut shown = String::new(heap);
+    let mut lines = Lines::new(file);
+    let ran = run(heap, &mut lines, budget, &mut shown);
+    conclude(ran, lines.number(), budget, shown)
+}
+
+// Plays a world file and tells of each parcel, in the order of keys, where it is by what was taken
+// everywhere. In this stage no call is taken, so there is none to tell of.
+pub fn locate(heap: Global, file: &[u8], budget: u32) -> Report {
+    let mut answers = String::new(heap);
+    let mut lines = Lines::new(file);
+    let ran = run(heap, &mut lines, budget, &mut answers);
+    conclude(ran, lines.number(), budget, String::new(heap))
+}
