@@ -42,7 +42,10 @@ impl<'a> Lines<'a> {
     pub fn new(text: &'a [u8]) -> Lines<'a>
         ensures { λ r. ⌜ (now (r .rest) ≡ now (text .entry)) × (r .taken ≡ 0) ⌝ }
     {
-        Lines { rest: text, taken: 0 }
+        Lines {
+            rest: text,
+            taken: 0,
+        }
     }
 
     // The number of the line that was taken last, from 1 on.

@@ -1,4 +1,4 @@
--- How a value grows with each digit. Assumes nothing.
+-- How a value grows with each digit.
 use mathlib.Core.Path.{_≡_, sym, ap, subst, _∙_}
 use mathlib.Core.List.{List, [], _∷_}
 use Prim.Native.Nat.{ℕ, _+_, _-_, _*_, _≤_, _<_}

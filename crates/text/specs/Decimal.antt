@@ -1,4 +1,4 @@
--- What decimal digits stand for. Assumes nothing.
+-- What decimal digits stand for.
 use mathlib.Core.List.{List}
 use Prim.Native.Nat.{ℕ, _+_, _-_, _*_}
 use Rattle.std.specs.Iters.{folded}

@@ -1,4 +1,4 @@
--- Faults, answers and steps as text: the bytes that are written. Assumes nothing.
+-- Faults, answers and steps as text: the bytes that are written.
 use mathlib.Core.List.{List, _++_}
 use Prim.Native.Nat.{ℕ}
 use lib.Chars.{codes}

@@ -1,0 +1,37 @@
+// How many things happen at most.
+use crate::shown::check_played;
+use std::test::*;
+
+#[test]
+fn each_thing_is_counted(rt: LibcRuntime) -> Result<(), Fail> {
+    check_played(
+        rt.alloc(),
+        3,
+        &[
+            (
+                b"3 offices, 8 parcels\nall clocks tick\n# all is spent now\nall letters come",
+                "",
+            ),
+            (
+                b"3 offices, 8 parcels\nat 0: sums\nat 0: tick\nat 0: bytes 1\n",
+                "refused 2 at 0\nrefused 2 at 0\n",
+            ),
+            (
+                b"3 offices, 8 parcels\nat 0: sums\nat 0: tick\nat 0: bytes 1\nat 0: sums\nat 0: sums\n",
+                "refused 2 at 0\nrefused 2 at 0\nstopped: more than 3 things happened\n",
+            ),
+            (
+                b"3 offices, 8 parcels\nat 0: sums\nall clocks tick\nat 0: sums\n",
+                "refused 2 at 0\nstopped: more than 3 things happened\n",
+            ),
+            (
+                b"3 offices, 8 parcels\nall clocks tick\nletter 0 comes\n",
+                "stopped: more than 3 things happened\n",
+            ),
+            (
+                b"3 offices, 8 parcels\nall clocks tick\nat 9: sums\n",
+                "stopped: more than 3 things happened\n",
+            ),
+        ],
+    )
+}
