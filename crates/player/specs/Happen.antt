@@ -11,8 +11,8 @@ use Rattle.parcels.specs.Book.{pick}
 use Rattle.parcels.specs.Calls.{Limits}
 use Rattle.parcels.specs.declared.Call.{Call}
 use Rattle.parcels.specs.declared.Answer.{Answer}
-use Rattle.text.specs.declared.Line.{Line}
-use Rattle.text.specs.declared.Line.the-variants.{Blank, Opening, Call as CallAt, Bytes, Tick, AllTick, Letter, AllLetters, AllLettersLastFirst}
+use Rattle.lines.specs.declared.Line.{Line}
+use Rattle.lines.specs.declared.Line.the-variants.{Blank, Opening, Call as CallAt, Bytes, Tick, AllTick, Letter, AllLetters, AllLettersLastFirst}
 use Rattle.world.specs.declared.Exchange.{Exchange}
 use Rattle.world.specs.declared.CannotHappen.{CannotHappen}
 use Rattle.world.specs.declared.CannotHappen.the-variants.{NeverSent}

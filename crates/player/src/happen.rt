@@ -14,9 +14,9 @@ use crate::trouble::MAX_LETTERS;
 use crate::trouble::Stop;
 use crate::trouble::StopFromCannot;
 use crate::trouble::Trouble;
+use lines::Line;
 use parcels::Answer;
 use parcels::Call;
-use text::Line;
 use world::World;
 
 // A world, and how many more things may happen in it.

@@ -1,20 +1,15 @@
 // Plays a world file: reads its lines, lets happen what they say, and shows the answers.
 mod happen;
-mod lines;
 mod program;
 mod report;
+mod split;
 mod trouble;
 
-pub use happen::Player;
-pub use lines::Lines;
 pub use program::Program;
 pub use report::BUDGET;
 pub use report::End;
 pub use report::Report;
 pub use report::locate;
 pub use report::play;
-pub use trouble::Stop;
-pub use trouble::StopFromCannot;
-pub use trouble::StopFromFault;
 pub use trouble::Trouble;
 pub use trouble::TroubleDisplay;

@@ -1,6 +1,6 @@
 // What playing a world file comes to, as text.
 use crate::happen::Player;
-use crate::lines::Lines;
+use crate::split::Lines;
 use crate::trouble::MAX_LETTERS;
 use crate::trouble::MAX_OFFICES;
 use crate::trouble::MAX_PARCELS;
@@ -8,13 +8,13 @@ use crate::trouble::Stop;
 use crate::trouble::StopFromCannot;
 use crate::trouble::StopFromFault;
 use crate::trouble::Trouble;
+use answers::AnswerText;
+use answers::AnswerTextDisplay;
+use lines::Line;
+use lines::read_line;
 use parcels::Answer;
 use std::alloc::Global;
 use std::fmt::Write;
-use text::AnswerText;
-use text::AnswerTextDisplay;
-use text::Line;
-use text::read_line;
 use world::CannotHappen;
 use world::World;
 

@@ -1,10 +1,10 @@
 // What ends the playing of a world before its file does.
 ghost use mathlib.Core.Path.{_≡_};
 ghost use Rattle.player.specs.declared.trouble.Stop.the-variants.{Bad};
-ghost use Rattle.player.specs.declared.trouble.Trouble.the-variants.{Impossible};
+ghost use Rattle.player.specs.declared.trouble.Trouble.the-variants.{Impossible, Unread};
+use lines::Fault;
+use lines::FaultDisplay;
 use std::fmt;
-use text::Fault;
-use text::FaultDisplay;
 use world::CannotHappen;
 
 // The most letters that are sent in a world that is played.
@@ -41,6 +41,8 @@ pub impl From<CannotHappen> for Stop as StopFromCannot {
 }
 
 pub impl From<Fault> for Stop as StopFromFault {
+    ghost converts = { λ e r. r ≡ Bad (Unread e) };
+
     fn from(e: Fault) -> Stop {
         Stop::Bad(Trouble::Unread(e))
     }

@@ -1,4 +1,10 @@
 // Each answer as text.
+use answers::AnswerText;
+use answers::AnswerTextDisplay;
+use answers::KindText;
+use answers::KindTextDisplay;
+use answers::Located;
+use answers::LocatedDisplay;
 use parcels::Answer;
 use parcels::Kind;
 use parcels::Reason;
@@ -6,12 +12,6 @@ use parcels::Refusal;
 use parcels::Slip;
 use parcels::Step;
 use std::test::*;
-use text::AnswerText;
-use text::AnswerTextDisplay;
-use text::KindText;
-use text::KindTextDisplay;
-use text::Located;
-use text::LocatedDisplay;
 
 #[test]
 fn answers(rt: LibcRuntime) -> Result<(), Fail> {

@@ -1,10 +1,10 @@
 // Each bad line, with what is said of it.
 use crate::shown::check_lines;
 use crate::shown::show;
+use lines::FaultDebug;
+use lines::Line;
+use lines::read_line;
 use std::test::*;
-use text::FaultDebug;
-use text::Line;
-use text::read_line;
 
 const A_LINE: &str =
     "expected a line such as '3 offices, 8 parcels', 'at 0: sums' or 'all letters come'";

@@ -1,12 +1,12 @@
 // What a line was read as, as a text for the tables: each field by its name, or the fault.
+use lines::FaultDisplay;
+use lines::Line;
+use lines::read_line;
 use parcels::Call;
 use parcels::Slip;
 use std::alloc::AllocError;
 use std::alloc::Global;
 use std::test::*;
-use text::FaultDisplay;
-use text::Line;
-use text::read_line;
 
 // Checks that each line is read as the text beside it says.
 pub fn check_lines(heap: Global, table: &[(&[u8], &str)]) -> Result<(), Fail> {

@@ -4,9 +4,12 @@ use mathlib.Core.Logic.{_⊎_, inl, inr, ∥∥₁-map}
 use mathlib.Core.Bool.{Bool, true, false, cond}
 use mathlib.Core.List.{List, [], _∷_, _++_}
 use Prim.Native.Nat.{ℕ, _<_}
-use lib.Dec.{eqb}
+use lib.Dec.{eqb, ltb}
+use borrow.Author.Tests.{ltb-true}
+use native.Mathlib.Omega.{arith}
 use Rattle.std.specs.declared.option.Option.the-variants.{Some}
-use Rattle.std.specs.declared.result.Result.the-variants.{Ok}
+use Rattle.std.specs.declared.result.Result.{Result}
+use Rattle.std.specs.declared.result.Result.the-variants.{Ok, Err}
 use Rattle.parcels.specs.Numbers.{call-number}
 use Rattle.parcels.specs.Book.{pick, Book}
 use Rattle.parcels.specs.Calls.{Limits, nothing, turned, refusal, told, answered, unless}
@@ -19,6 +22,9 @@ use Rattle.office.specs.Opening.{stage-limits}
 use Rattle.promises.specs.World.{Memory, Said, World, Lived, called, opened, readable, slip-known, with-memory}
 use Rattle.promises.specs.Promise.{Right-answer, Right-pay, Right-where}
 use Rattle.world.specs.declared.Exchange.{Exchange}
+use Rattle.world.specs.declared.CannotHappen.{CannotHappen}
+use Rattle.world.specs.declared.CannotHappen.the-variants.{NoOffice}
+use Rattle.world.specs.Outcome.{at-office}
 use Rattle.world.specs.Ours.{ours, history, world-of}
 use Rattle.world.proofs.Journal.{said-of, history-push}
 
@@ -73,3 +79,11 @@ goes-on-if false n p o xs ys c a e there fits known h v = rw e v
 pub begins : (n p : ℕ) (xs : List Exchange) → xs ≡ [] → ∥ Lived ours (stage-limits n p) (world-of xs) ∥₁
 unfolding history
 begins n p xs e = rw e (∣ opened (λ o. []) (λ o h. refl) ∣₁)
+
+-- an office at which something happens is there
+there-by : (t : Bool) (r : Result (Unit {0}) CannotHappen) (u : Unit {0}) → r ≡ Ok u → r ≡ pick t (Ok tt) (Err NoOffice) → t ≡ true
+there-by true r u d e = refl
+there-by false r u d e = let never : _≡_ {A = ℕ} 0 1 = cc in absurd (omega arith)
+
+pub is-there : (n o : ℕ) (u : Unit {0}) → Ok u ≡ at-office n o tt → o < n
+is-there n o u e = ltb-true o n (there-by (ltb o n) (Ok u) u refl e)

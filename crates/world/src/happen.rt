@@ -104,13 +104,21 @@ impl World {
         0
     }
 
-    // A row of bytes is handed to an office as a call.
-    pub fn bytes(&self, at: u32, _row: &[u8]) -> Result<Answer, CannotHappen>
-        ensures { λ r. ⌜ r ≡ at-office (limits-of (now (self .entry)) .offices) at not-read-yet ⌝ }
+    // Whether an office is there.
+    fn at_office(&self, at: u32) -> Result<(), CannotHappen>
+        ensures { λ r. ⌜ r ≡ at-office (limits-of (now (self .entry)) .offices) at tt ⌝ }
     {
         if at as usize >= self.offices.len() {
             return Err(CannotHappen::NoOffice);
         }
+        Ok(())
+    }
+
+    // A row of bytes is handed to an office as a call.
+    pub fn bytes(&self, at: u32, _row: &[u8]) -> Result<Answer, CannotHappen>
+        ensures { λ r. ⌜ r ≡ at-office (limits-of (now (self .entry)) .offices) at not-read-yet ⌝ }
+    {
+        self.at_office(at)?;
         Ok(Answer::Refused(Refusal {
             reason: Reason::OutOfRange,
             place: 0,
@@ -118,13 +126,10 @@ impl World {
     }
 
     // An office's clock ticks: nothing comes of it, in this stage.
-    pub fn tick(&self, at: u32) -> Result<(), CannotHappen>
-        ensures { λ r. ⌜ r ≡ at-office (limits-of (now (self .entry)) .offices) at tt ⌝ }
+    pub fn tick(&self, clock: u32) -> Result<(), CannotHappen>
+        ensures { λ r. ⌜ r ≡ at-office (limits-of (now (self .entry)) .offices) clock tt ⌝ }
     {
-        if at as usize >= self.offices.len() {
-            return Err(CannotHappen::NoOffice);
-        }
-        Ok(())
+        self.at_office(clock)
     }
 
     // A letter comes, by its number among all that were sent: none was, in this stage.
@@ -139,9 +144,7 @@ impl World {
         ensures value { λ r. ⌜ Called (limits-of (now (self .entry))) (journal-of (now (self .entry))) at call r (journal-of (now (self .exit))) ⌝ }
         ensures same { λ _. ⌜ limits-of (now (self .exit)) ≡ limits-of (now (self .entry)) ⌝ }
     {
-        if at as usize >= self.offices.len() {
-            return Err(CannotHappen::NoOffice);
-        }
+        self.at_office(at)?;
         if !is_readable(call) {
             return Err(CannotHappen::NoSuchCall);
         }
