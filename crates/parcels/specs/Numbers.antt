@@ -27,6 +27,21 @@ most-amount = 1000000
 abbrev pub keys-of-an-office : ℕ
 keys-of-an-office = 65536
 
+-- a field of a call, and a word of an office's memory, is a number of four bytes, below this
+abbrev pub four-bytes : ℕ
+four-bytes = 4294967296
+
+-- the most bytes of a letter
+abbrev pub letter-bytes : ℕ
+letter-bytes = 64
+
+-- the most words of memory that an office asks for: so many for each parcel of its limit, and so many more
+abbrev pub words-a-parcel : ℕ
+words-a-parcel = 24
+
+abbrev pub words-more : ℕ
+words-more = 1024
+
 -- what a step did with its parcel
 abbrev pub kind-number : Kind → ℕ
 kind-number Accepted = 0

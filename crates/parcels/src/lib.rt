@@ -10,6 +10,9 @@ pub const MAX_OFFICES: u32 = 16;
 // The most parcels that one office ever has to do with.
 pub const MAX_PARCELS: u32 = 65_536;
 
+// The first number that a field of a call, four bytes, can't carry.
+pub const FIELD_END: u64 = 4_294_967_296;
+
 // What a step did with its parcel.
 #[derive(Clone, Copy)]
 pub enum Kind {

@@ -1,2 +1,3 @@
 pub mod Cut
 pub mod Happen
+pub mod Report

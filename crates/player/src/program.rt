@@ -1,4 +1,6 @@
 // The two programs: what they do with the files that they are given.
+ghost use mathlib.Core.Path.{_≡_};
+ghost use Rattle.player.specs.Report.{program-name};
 use crate::report::BUDGET;
 use crate::report::End;
 use crate::report::Report;
@@ -17,7 +19,9 @@ pub enum Program {
 }
 
 impl Program {
-    fn name(self) -> &'static str {
+    fn name(self) -> &'static str
+        ensures { λ r. ⌜ now r ≡ program-name self ⌝ }
+    {
         match self {
             Program::Play => "play",
             Program::Locate => "locate",

@@ -1,4 +1,14 @@
 // What playing a world file comes to, as text.
+ghost use mathlib.Core.Path.{_≡_};
+ghost use mathlib.Core.List.{[], _∷_, _++_};
+ghost use Rattle.std.specs.Of.String.{string-bytes};
+ghost use Rattle.std.specs.Vec.{made};
+ghost use Rattle.std.specs.Results.{Cases};
+ghost use Rattle.answers.specs.Texts.{answer-text};
+ghost use Rattle.world.specs.declared.CannotHappen.the-variants.{NoMemory};
+ghost use Rattle.player.specs.declared.trouble.Stop.the-variants.{Bad};
+ghost use Rattle.player.specs.declared.trouble.Trouble.the-variants.{Impossible};
+ghost use Rattle.player.specs.Report.{Small, stop-line, Concludes};
 use crate::happen::Player;
 use crate::split::Lines;
 use crate::trouble::MAX_LETTERS;
@@ -36,7 +46,9 @@ pub struct Report {
 }
 
 // Opens the world that the first line that is not blank asks for. None where there is no such line.
-fn open(heap: Global, lines: &mut Lines) -> Result<Option<World>, Stop> {
+fn open(heap: Global, lines: &mut Lines) -> Result<Option<World>, Stop>
+    ensures { λ r. ⌜ made r Small ⌝ }
+{
     while let Some(line) = lines.next() {
         match read_line(heap, line)? {
             Line::Blank => {}
@@ -53,7 +65,9 @@ fn open(heap: Global, lines: &mut Lines) -> Result<Option<World>, Stop> {
 }
 
 // Writes an answer as a line.
-fn show(answer: Answer, shown: &mut String) -> Result<(), Stop> {
+fn show(answer: Answer, shown: &mut String) -> Result<(), Stop>
+    ensures { λ r. ⌜ Cases r (λ _. string-bytes (now (shown .exit)) ≡ string-bytes (now (shown .entry)) ++ (answer-text answer ++ (10 ∷ []))) (λ e. e ≡ Bad (Impossible NoMemory)) ⌝ }
+{
     let Ok(()) = writeln!(shown, "{}", AnswerText(answer)) else {
         return Err(Stop::Bad(Trouble::Impossible(CannotHappen::NoMemory)));
     };
@@ -75,7 +89,9 @@ fn run(heap: Global, lines: &mut Lines, budget: u32, shown: &mut String) -> Resu
 }
 
 // Why a world stopped, as a line, where no line of its file is to blame.
-fn show_stop(what: &str, most: u32, shown: &mut String) -> Result<(), Stop> {
+fn show_stop(what: &str, most: u32, shown: &mut String) -> Result<(), Stop>
+    ensures { λ r. ⌜ Cases r (λ _. string-bytes (now (shown .exit)) ≡ string-bytes (now (shown .entry)) ++ stop-line most (now (what .entry))) (λ e. e ≡ Bad (Impossible NoMemory)) ⌝ }
+{
     let Ok(()) = writeln!(shown, "stopped: more than {most} {what}") else {
         return Err(Stop::Bad(Trouble::Impossible(CannotHappen::NoMemory)));
     };
@@ -83,7 +99,9 @@ fn show_stop(what: &str, most: u32, shown: &mut String) -> Result<(), Stop> {
 }
 
 // The report of a run that stopped so, or did not, at this line.
-fn conclude(ran: Result<(), Stop>, line: u64, budget: u32, mut shown: String) -> Report {
+fn conclude(ran: Result<(), Stop>, line: u64, budget: u32, mut shown: String) -> Report
+    ensures { λ r. ⌜ Concludes ran line budget (string-bytes shown) r ⌝ }
+{
     let ended = match ran {
         Ok(()) => Ok(()),
         Err(Stop::TooManyLetters) => show_stop("letters were sent", MAX_LETTERS, &mut shown),

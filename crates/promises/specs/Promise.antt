@@ -9,7 +9,7 @@ use lib.ListN.{length, getD}
 use Rattle.std.specs.declared.option.Option.{Option}
 use Rattle.std.specs.declared.option.Option.the-variants.{Some, None}
 use Rattle.std.specs.declared.result.Result.the-variants.{Ok, Err}
-use Rattle.parcels.specs.Numbers.{fewest-offices, most-offices, most-parcels}
+use Rattle.parcels.specs.Numbers.{fewest-offices, most-offices, most-parcels, four-bytes, letter-bytes, words-a-parcel, words-more}
 use Rattle.parcels.specs.Book.{pick, origin, Book, has, own, is-here, was-handed-out, collected, paid-out}
 use Rattle.parcels.specs.Calls.{Stage, Limits, turned, place, answered, needs-news}
 use Rattle.parcels.specs.declared.Kind.{Kind}
@@ -161,20 +161,20 @@ unfoldable pub all-below : ℕ → List ℕ → Bool
 all-below n [] = true
 all-below n (x ∷ xs) = ltb x n && all-below n xs
 
--- letters of at most 64 bytes
+-- letters that are not too long
 unfoldable pub short : List Letter → Bool
 short [] = true
-short (x ∷ xs) = (leb (length (x .text)) 64 && all-below 256 (x .text)) && short xs
+short (x ∷ xs) = (leb (length (x .text)) letter-bytes && all-below 256 (x .text)) && short xs
 
--- so many words for each parcel, and so many more
+-- the most words of memory, by the limit of parcels
 abbrev pub words-for : ℕ → ℕ
-words-for parcels = 24 * parcels + 1024
+words-for parcels = words-a-parcel * parcels + words-more
 
 abbrev pub Stays-small : Stage → Office → Type 0
 Stays-small can f =
     (l : Limits) (w : World) (o : ℕ) → Good-limits can l → Lived f l w → o < l .offices →
     (length (w .memory o) ≤ words-for (l .parcels))
-    × (all-below 4294967296 (w .memory o) ≡ true)
+    × (all-below four-bytes (w .memory o) ≡ true)
     × (short (w .sent) ≡ true)
     × ((m : Memory) (ls : List Letter) → f .Ticked l o (w .memory o) m ls → length ls ≤ l .parcels)
     × ((x : List ℕ) (m : Memory) (ls : List Letter) → f .Heard l o (w .memory o) x m ls → length ls ≤ l .offices)

@@ -8,6 +8,7 @@ use lib.Dec.{ltb, eqb}
 use lib.ListN.{length, drop}
 use Rattle.std.specs.declared.result.Result.{Result}
 use Rattle.std.specs.declared.result.Result.the-variants.{Ok, Err}
+use Rattle.parcels.specs.Numbers.{four-bytes}
 use Rattle.parcels.specs.Book.{pick}
 use Rattle.parcels.specs.Calls.{Limits}
 use Rattle.parcels.specs.declared.Slip.{Slip}
@@ -96,7 +97,7 @@ row-known (Err place) xs = Unit {0}
 
 -- a number that a field of a call can carry
 abbrev pub field : ℕ → Bool
-field n = ltb n 4294967296
+field n = ltb n four-bytes
 
 -- a call whose numbers its fields can carry
 abbrev pub readable : Call → Bool

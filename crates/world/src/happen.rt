@@ -18,6 +18,7 @@ use crate::World;
 use office::Office;
 use parcels::Answer;
 use parcels::Call;
+use parcels::FIELD_END;
 use parcels::Reason;
 use parcels::Refusal;
 use parcels::Slip;
@@ -41,7 +42,7 @@ fn is_readable(call: Call) -> bool
     ensures { λ r. ⌜ r ≡ readable call ⌝ }
 {
     match call {
-        Call::TakeIn { slip } => slip.step < 4_294_967_296,
+        Call::TakeIn { slip } => slip.step < FIELD_END,
         _ => true,
     }
 }
