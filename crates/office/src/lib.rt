@@ -5,11 +5,16 @@ ghost use Rattle.parcels.specs.Calls.{answered, after};
 ghost use Rattle.office.specs.Opening.{Opens, stage-limits};
 use parcels::Answer;
 use parcels::Call;
-use parcels::MAX_OFFICES;
-use parcels::MAX_PARCELS;
-use parcels::MIN_OFFICES;
 use parcels::Reason;
 use parcels::Refusal;
+
+// The fewest and the most offices that a post has.
+pub const MIN_OFFICES: u32 = 2;
+
+pub const MAX_OFFICES: u32 = 16;
+
+// The most parcels that one office ever has to do with.
+pub const MAX_PARCELS: u32 = 65_536;
 
 // How many offices there are, this one's number among them, and how many parcels it ever has to do with.
 #[derive(Drop)]

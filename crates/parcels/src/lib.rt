@@ -2,17 +2,6 @@
 ghost use mathlib.Core.Path.{_≡_};
 ghost use Rattle.parcels.specs.Numbers.{call-number, kind-number, reason-number};
 
-// The fewest and the most offices that a post has.
-pub const MIN_OFFICES: u32 = 2;
-
-pub const MAX_OFFICES: u32 = 16;
-
-// The most parcels that one office ever has to do with.
-pub const MAX_PARCELS: u32 = 65_536;
-
-// The first number that a field of a call, four bytes, can't carry.
-pub const FIELD_END: u64 = 4_294_967_296;
-
 // What a step did with its parcel.
 #[derive(Clone, Copy)]
 pub enum Kind {

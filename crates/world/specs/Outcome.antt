@@ -29,7 +29,7 @@ Called l xs o c (Ok a) ys =
 Called l xs o c (Err NoOffice) ys = (l .offices ≤ o) × (ys ≡ xs)
 Called l xs o c (Err NoSuchCall) ys = (o < l .offices) × (readable c ≡ false) × (ys ≡ xs)
 Called l xs o c (Err NeverGiven) ys = (o < l .offices) × (readable c ≡ true) × (slip-known c (history xs) → ⊥) × (ys ≡ xs)
-Called l xs o c (Err NoMemory) ys = ys ≡ xs
+Called l xs o c (Err NoMemory) ys = (o < l .offices) × (readable c ≡ true) × slip-known c (history xs) × (ys ≡ xs)
 Called l xs o c (Err BadLimits) ys = ⊥
 Called l xs o c (Err NeverSent) ys = ⊥
 

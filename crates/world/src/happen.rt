@@ -18,7 +18,6 @@ use crate::World;
 use office::Office;
 use parcels::Answer;
 use parcels::Call;
-use parcels::FIELD_END;
 use parcels::Reason;
 use parcels::Refusal;
 use parcels::Slip;
@@ -26,6 +25,9 @@ use parcels::SlipPartialEq;
 use std::alloc::AllocError;
 use std::alloc::Global;
 use std::alloc::Refused;
+
+// The first number that a field of a call, four bytes, can't carry.
+const FIELD_END: u64 = 4_294_967_296;
 
 // Whether an answer gives this slip out.
 fn gives(answer: Answer, slip: Slip) -> bool
