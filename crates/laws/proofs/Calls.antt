@@ -1,6 +1,6 @@
 -- A slip works once; a call that is turned away changes no book.
-use mathlib.Core.Path.{_≡_, refl, sym, ap, subst, _∙_}
-use mathlib.Core.Bool.{Bool, true, false, not, _&&_, _||_}
+use mathlib.Core.Path.{_≡_, refl, ap, _∙_}
+use mathlib.Core.Bool.{Bool, true, false, _&&_, _||_}
 use Prim.Native.Nat.{ℕ, suc}
 use native.Mathlib.Omega.{arith}
 use lib.Dec.{eqb, ltb}
@@ -9,7 +9,7 @@ use Rattle.std.specs.declared.option.Option.{Option}
 use Rattle.std.specs.declared.option.Option.the-variants.{Some, None}
 use Rattle.std.specs.Options.{isSome}
 use Rattle.parcels.specs.Book.{pick, Book, has, own, with-own}
-use Rattle.parcels.specs.Calls.{Limits, good-fields, checked, turned, after, changed, unless, came-entry, slip-works, has-room}
+use Rattle.parcels.specs.Calls.{good-fields, checked, turned, after, changed, unless, came-entry, slip-works, has-room}
 use Rattle.parcels.specs.Laws.{Slip-once, Turned-away}
 use Rattle.parcels.specs.declared.Slip.{Slip}
 use Rattle.parcels.specs.declared.Entry.{Entry}

@@ -16,7 +16,7 @@ use Rattle.parcels.specs.declared.Reason.{Reason}
 use Rattle.parcels.specs.declared.Reason.the-variants.{Unreadable, OutOfRange, BadOpening, NotHere, WrongSlip, OtherOffice, NothingToPay, PaidAlready, OverLimit}
 use Rattle.parcels.specs.declared.Refusal.{Refusal}
 use Rattle.parcels.specs.declared.Answer.{Answer}
-use Rattle.parcels.specs.declared.Answer.the-variants.{Refused, Number, Given, At, NothingHeard, Two}
+use Rattle.parcels.specs.declared.Answer.the-variants.{Refused, Number, Given, NothingHeard, Two}
 
 -- a stage of the post: the numbers of the calls that can be done in it
 abbrev pub Stage : Type 0

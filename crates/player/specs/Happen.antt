@@ -19,7 +19,6 @@ use Rattle.world.specs.declared.CannotHappen.the-variants.{NeverSent}
 use Rattle.world.specs.Outcome.{Called, at-office, not-read-yet}
 use Rattle.player.specs.declared.trouble.Stop.{Stop}
 use Rattle.player.specs.declared.trouble.Stop.the-variants.{BudgetSpent, TooManyLetters, Bad}
-use Rattle.player.specs.declared.trouble.Trouble.{Trouble}
 use Rattle.player.specs.declared.trouble.Trouble.the-variants.{OpenedAgain, Impossible}
 
 -- what a line shows: an answer, nothing, or why the world stops there

@@ -1,3 +1,4 @@
 pub mod Cut
 pub mod Happen
 pub mod Report
+pub mod Texts

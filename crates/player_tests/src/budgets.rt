@@ -1,5 +1,7 @@
 // How many things happen at most.
 use crate::shown::check_played;
+use player::BUDGET;
+use player::play;
 use std::test::*;
 
 #[test]
@@ -33,5 +35,23 @@ fn each_thing_is_counted(rt: LibcRuntime) -> Result<(), Fail> {
                 "stopped: more than 3 things happened\n",
             ),
         ],
+    )
+}
+
+#[test]
+fn the_programs_budget(rt: LibcRuntime) -> Result<(), Fail> {
+    let heap = rt.alloc();
+    let mut file = Vec::new(heap);
+    file.extend_from_slice(b"2 offices, 1 parcels\n")?;
+    for _ in 0..65_536 {
+        file.extend_from_slice(b"at 0: tick\n")?;
+    }
+    let all = play(heap, file.as_slice(), BUDGET);
+    check_eq(all.shown.as_str(), "")?;
+    file.extend_from_slice(b"at 1: tick\n")?;
+    let one_more = play(heap, file.as_slice(), BUDGET);
+    check_eq(
+        one_more.shown.as_str(),
+        "stopped: more than 65536 things happened\n",
     )
 }

@@ -2,7 +2,7 @@
 use mathlib.Core.Path.{_≡_}
 use mathlib.Core.Logic.{_⊎_}
 use mathlib.Core.Bool.{Bool, true, false, not, _&&_, _||_}
-use mathlib.Core.List.{List, [], _∷_, _++_}
+use mathlib.Core.List.{List, [], _∷_}
 use Prim.Native.Nat.{ℕ, zero, suc, _+_, _*_, _-_, _≤_, _<_}
 use lib.Dec.{ltb, leb, eqb}
 use lib.ListN.{length, getD}
@@ -14,7 +14,6 @@ use Rattle.parcels.specs.Book.{pick, origin, Book, has, own, is-here, was-hande
 use Rattle.parcels.specs.Calls.{Stage, Limits, turned, place, answered, needs-news}
 use Rattle.parcels.specs.declared.Kind.{Kind}
 use Rattle.parcels.specs.declared.Kind.the-variants.{Accepted, SentOn, ComeIn, HandedOut}
-use Rattle.parcels.specs.declared.Slip.{Slip}
 use Rattle.parcels.specs.declared.Step.{Step}
 use Rattle.parcels.specs.declared.Call.{Call}
 use Rattle.parcels.specs.declared.Call.the-variants.{Accept, Send, SlipAgain, TakeIn, HandOut, Pay, WhereIs, Here, Sums}

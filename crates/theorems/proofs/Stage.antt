@@ -1,8 +1,7 @@
 -- The promises, where nothing can be done: every call is turned away, so no memory, letter or step ever comes about.
-use mathlib.Core.Path.{_≡_, refl, sym, ap, subst, _∙_}
-use mathlib.Core.Logic.{_⊎_, inl, inr}
+use mathlib.Core.Path.{_≡_, refl, sym, _∙_}
 use mathlib.Core.Bool.{Bool, true, false}
-use mathlib.Core.List.{List, [], _∷_, _++_}
+use mathlib.Core.List.{List, [], _++_}
 use Prim.Native.Nat.{ℕ, _<_, _≤_, zero-le}
 use native.Mathlib.Omega.{arith}
 use lib.Dec.{eqb}
@@ -13,7 +12,7 @@ use Rattle.parcels.specs.Calls.{Limits, nothing, refusal}
 use Rattle.parcels.specs.declared.Call.the-variants.{WhereIs}
 use Rattle.parcels.specs.declared.Reason.the-variants.{OutOfRange}
 use Rattle.parcels.specs.declared.Answer.the-variants.{Refused, At}
-use Rattle.promises.specs.World.{Memory, Letter, Said, World, Lived, opened, called, heard, ticked}
+use Rattle.promises.specs.World.{Memory, Letter, World, Lived, opened, called, heard, ticked}
 use Rattle.promises.specs.Promise.{Right, Refusal-keeps, Stays-small, Never-back, Old-letters, all-below, short}
 use Rattle.world.specs.Ours.{ours}
 use Rattle.world.proofs.Stage as stage

@@ -1,6 +1,6 @@
 -- In the stage in which nothing can be done: each answer is right, and what the offices do can happen.
 use mathlib.Core.Path.{_≡_, refl, sym, ap, subst, fun-ext, _∙_}
-use mathlib.Core.Logic.{_⊎_, inl, inr, ∥∥₁-map}
+use mathlib.Core.Logic.{inr, ∥∥₁-map}
 use mathlib.Core.Bool.{Bool, true, false, cond}
 use mathlib.Core.List.{List, [], _∷_, _++_}
 use Prim.Native.Nat.{ℕ, _<_}

@@ -7,7 +7,7 @@ use Rattle.parcels.specs.Book.{Book}
 use Rattle.parcels.specs.Calls.{Limits, answered}
 use Rattle.parcels.specs.declared.Answer.{Answer}
 use Rattle.office.specs.declared.Office.{Office as OpenOffice}
-use Rattle.promises.specs.World.{Memory, Letter, Row, Office, Said, World}
+use Rattle.promises.specs.World.{Row, Office, Said, World}
 use Rattle.world.specs.declared.Exchange.{Exchange}
 
 -- what a call is answered, whatever the office has in its book. No row of bytes is read in this stage, so none

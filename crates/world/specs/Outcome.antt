@@ -9,7 +9,6 @@ use Rattle.std.specs.declared.result.Result.the-variants.{Ok, Err}
 use Rattle.parcels.specs.Book.{pick}
 use Rattle.parcels.specs.Calls.{Limits}
 use Rattle.parcels.specs.declared.Reason.the-variants.{OutOfRange}
-use Rattle.parcels.specs.declared.Refusal.{Refusal}
 use Rattle.parcels.specs.declared.Call.{Call}
 use Rattle.parcels.specs.declared.Answer.{Answer}
 use Rattle.parcels.specs.declared.Answer.the-variants.{Refused}

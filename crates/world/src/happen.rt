@@ -1,8 +1,6 @@
 // The things that can happen in a world.
 ghost use mathlib.Core.Path.{_≡_};
 ghost use mathlib.Core.Bool.{true, false};
-ghost use mathlib.Core.List.{[]};
-ghost use Prim.Native.Nat.{ℕ};
 ghost use Rattle.std.specs.Orderings.{Decides};
 ghost use Rattle.std.specs.declared.result.Result.the-variants.{Ok, Err};
 ghost use Rattle.parcels.specs.declared.Answer.the-variants.{Given};
@@ -22,9 +20,7 @@ use parcels::Reason;
 use parcels::Refusal;
 use parcels::Slip;
 use parcels::SlipPartialEq;
-use std::alloc::AllocError;
 use std::alloc::Global;
-use std::alloc::Refused;
 
 // The first number that a field of a call, four bytes, can't carry.
 const FIELD_END: u64 = 4_294_967_296;
