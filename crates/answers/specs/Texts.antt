@@ -10,16 +10,19 @@ use Rattle.parcels.specs.declared.Kind.{Kind}
 use Rattle.parcels.specs.declared.Kind.the-variants.{Accepted, SentOn, ComeIn, HandedOut}
 use Rattle.parcels.specs.declared.Step.{Step}
 
+-- what a step did
 abbrev pub kind-text : Kind → List ℕ
 kind-text Accepted = codes "accepted"
 kind-text SentOn = codes "sent on"
 kind-text ComeIn = codes "come in"
 kind-text HandedOut = codes "handed out"
 
+-- where a parcel is: its key and its last step
 abbrev pub located-text : ℕ → Step → List ℕ
 located-text key s =
     decimal key ++ (codes ": step " ++ (decimal (s .number) ++ (codes ", " ++ (kind-text (s .kind) ++ (codes " at " ++ decimal (s .office))))))
 
+-- an answer
 abbrev pub answer-text : Answer → List ℕ
 answer-text (Refused r) = codes "refused " ++ (decimal (reason-number (r .reason)) ++ (codes " at " ++ decimal (r .place)))
 answer-text (Number n) = decimal n

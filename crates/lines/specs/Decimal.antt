@@ -7,5 +7,6 @@ use Rattle.std.specs.Iters.{folded}
 abbrev pub with-digit : ℕ → ℕ → ℕ
 with-digit n d = n * 10 + (d - 48)
 
+-- the number that digits stand for
 abbrev pub value-of : List ℕ → ℕ
 value-of ds = folded with-digit 0 ds

@@ -45,10 +45,10 @@ impl Office {
         })
     }
 
-    // The answer is right whatever the office has in its book, and the book stays as it is.
+    // The answer is what the rules say, whatever the office has in its book; and by the rules that book stays as it is.
     pub fn call(&self, call: Call) -> Answer
         ensures value { λ r. ⌜ ((b : Book) → r ≡ answered (stage-limits (now (self .entry) .offices) (now (self .entry) .parcels)) (now (self .entry) .own) b call) ⌝ }
-        ensures same { λ _. ⌜ ((b : Book) → after (stage-limits (now (self .entry) .offices) (now (self .entry) .parcels)) (now (self .entry) .own) b call ≡ b) ⌝ }
+        ensures kept { λ _. ⌜ ((b : Book) → after (stage-limits (now (self .entry) .offices) (now (self .entry) .parcels)) (now (self .entry) .own) b call ≡ b) ⌝ }
     {
         let place = match call {
             Call::Send { .. } => 1,

@@ -17,6 +17,7 @@ pick false x y = y
 abbrev pub origin : ℕ → ℕ
 origin key = key / keys-of-an-office
 
+-- a book: its entries in the order in which they came
 abbrev pub Book : Type 0
 Book = List Entry
 
@@ -46,12 +47,14 @@ leaves-it-here SentOn = false
 leaves-it-here ComeIn = true
 leaves-it-here HandedOut = false
 
+-- the parcel was sent on from the office
 abbrev pub was-sent-on : Kind → Bool
 was-sent-on Accepted = false
 was-sent-on SentOn = true
 was-sent-on ComeIn = false
 was-sent-on HandedOut = false
 
+-- the parcel was handed out at the office
 abbrev pub was-handed-out : Kind → Bool
 was-handed-out Accepted = false
 was-handed-out SentOn = false

@@ -34,7 +34,7 @@ thin k = ltb k 5 || (eqb k 7 || eqb k 8)
 abbrev pub whole : Stage
 whole k = true
 
--- what an office is opened with, but for its own number
+-- the stage, how many offices there are, and the limit of parcels that an office is opened with
 pub record Limits : Type 0 where
   pub can : Stage
   pub offices : ℕ
@@ -78,7 +78,7 @@ checked l o b Sums = None
 abbrev pub turned : Limits → ℕ → Book → Call → Option Reason
 turned l o b c = pick (l .can (call-number c) && good-fields l o c) (checked l o b c) (Some OutOfRange)
 
--- the place that goes with a reason: 1 where a number to send by is out of range, else 0
+-- the place in send that goes with a reason: 1 where send is out of range or can't be done, else 0
 abbrev pub place-of-range : Reason → ℕ
 place-of-range Unreadable = 0
 place-of-range OutOfRange = 1
@@ -90,6 +90,7 @@ place-of-range NothingToPay = 0
 place-of-range PaidAlready = 0
 place-of-range OverLimit = 0
 
+-- the place in a call that goes with a reason
 abbrev pub place : Call → Reason → ℕ
 place (Accept dest amount) r = 0
 place (Send key to) r = place-of-range r
@@ -101,6 +102,7 @@ place (WhereIs key) r = 0
 place (Here from) r = 0
 place Sums r = 0
 
+-- a reason with its place
 abbrev pub refusal : Call → Reason → Refusal
 refusal c r = record { reason = r; place = place c r }
 
@@ -112,16 +114,19 @@ new-key o b = keys-of-an-office * o + accepted o b
 abbrev pub slip-from : ℕ → Entry → Slip
 slip-from o e = record { key = e .key; step = e .step; from = o; to = e .to; dest = e .dest; amount = e .amount }
 
--- the four steps, each one more than the one before
+-- step 0: a parcel is accepted
 abbrev pub accepted-entry : ℕ → ℕ → ℕ → ℕ → Entry
 accepted-entry o key dest amount = record { key = key; step = 0; kind = Accepted; to = o; dest = dest; amount = amount; paid = false }
 
+-- the next step: it is sent on
 abbrev pub sent-entry : Entry → ℕ → Entry
 sent-entry e to = record { key = e .key; step = suc (e .step); kind = SentOn; to = to; dest = e .dest; amount = e .amount; paid = e .paid }
 
+-- the step after the slip's: it comes in
 abbrev pub came-entry : ℕ → Slip → Bool → Entry
 came-entry o s paid = record { key = s .key; step = suc (s .step); kind = ComeIn; to = o; dest = s .dest; amount = s .amount; paid = paid }
 
+-- the next step: it is handed out, at the office that it is for
 abbrev pub handed-entry : ℕ → ℕ → Entry → Entry
 handed-entry o key e = record { key = key; step = suc (e .step); kind = HandedOut; to = o; dest = o; amount = e .amount; paid = e .paid }
 

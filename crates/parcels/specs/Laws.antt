@@ -13,7 +13,8 @@ use Rattle.parcels.specs.declared.Entry.{Entry}
 use Rattle.parcels.specs.declared.Call.{Call}
 use Rattle.parcels.specs.declared.Call.the-variants.{TakeIn}
 
--- looking up what was put in, and what was there before; and what stays as long as it was
+-- what was put in for a parcel is found, and what was there for others stays; a book has a parcel's entry under
+-- its key, grows by one for a new parcel only, and of two entries put in for one parcel keeps the second
 pub record Book-laws : Type 0 where
   pub own-put : (b : Book) (e : Entry) → own (with-own b e) (e .key) ≡ e
   pub own-other : (b : Book) (e : Entry) (key : ℕ) → eqb (e .key) key ≡ false → own (with-own b e) key ≡ own b key
@@ -22,7 +23,7 @@ pub record Book-laws : Type 0 where
   pub put-length : (b : Book) (e : Entry) → length (with-own b e) ≡ pick (has b (e .key)) (length b) (length b + 1)
   pub put-twice : (b : Book) (d e : Entry) → d .key ≡ e .key → with-own (with-own b d) e ≡ with-own b e
 
--- a slip works once: at the office that took a parcel in with it, it is turned away from then on
+-- a slip works once: by the book that taking a parcel in leaves, the same slip is turned away
 abbrev pub Slip-once : Type 0
 Slip-once = (l : Limits) (o : ℕ) (b : Book) (s : Slip) → turned l o b (TakeIn s) ≡ None → isSome (turned l o (after l o b (TakeIn s)) (TakeIn s)) ≡ true
 

@@ -1,4 +1,5 @@
 -- The numbers by which calls, kinds of step, reasons and answers are known outside, and the limits.
+use mathlib.Core.List.{List, [], _∷_}
 use Prim.Native.Nat.{ℕ}
 use Rattle.parcels.specs.declared.Kind.{Kind}
 use Rattle.parcels.specs.declared.Kind.the-variants.{Accepted, SentOn, ComeIn, HandedOut}
@@ -9,13 +10,15 @@ use Rattle.parcels.specs.declared.Reason.the-variants.{Unreadable, OutOfRange,
 use Rattle.parcels.specs.declared.Answer.{Answer}
 use Rattle.parcels.specs.declared.Answer.the-variants.{Refused, Number, Given, At, NothingHeard, Two}
 
--- how many offices a post has at least and at most, and how many parcels an office ever has to do with
+-- how many offices a post has at least
 abbrev pub fewest-offices : ℕ
 fewest-offices = 2
 
+-- how many it has at most
 abbrev pub most-offices : ℕ
 most-offices = 16
 
+-- how many parcels an office ever has to do with at most
 abbrev pub most-parcels : ℕ
 most-parcels = 65536
 
@@ -35,10 +38,11 @@ four-bytes = 4294967296
 abbrev pub letter-bytes : ℕ
 letter-bytes = 64
 
--- the most words of memory that an office asks for: so many for each parcel of its limit, and so many more
+-- the most words of memory that an office asks for, for each parcel of its limit
 abbrev pub words-a-parcel : ℕ
 words-a-parcel = 24
 
+-- and how many more it asks for
 abbrev pub words-more : ℕ
 words-more = 1024
 
@@ -81,3 +85,12 @@ answer-number (Given slip) = 2
 answer-number (At step) = 3
 answer-number NothingHeard = 4
 answer-number (Two m n) = 5
+
+-- the values that an answer carries behind its first byte
+abbrev pub answer-values : Answer → List ℕ
+answer-values (Refused r) = reason-number (r .reason) ∷ (r .place ∷ [])
+answer-values (Number n) = n ∷ []
+answer-values (Given s) = s .key ∷ (s .step ∷ (s .from ∷ (s .to ∷ (s .dest ∷ (s .amount ∷ [])))))
+answer-values (At s) = s .number ∷ (kind-number (s .kind) ∷ (s .office ∷ []))
+answer-values NothingHeard = []
+answer-values (Two m n) = m ∷ (n ∷ [])

@@ -58,7 +58,8 @@ pub enum Call {
     Sums,
 }
 
-// Why a call is turned away, in the order in which it is checked.
+// Why a call is turned away, in the order of the list (pay is checked for an amount before, and for news after,
+// whether it was paid already).
 #[derive(Clone, Copy)]
 pub enum Reason {
     Unreadable,

@@ -34,9 +34,11 @@ abbrev pub stops : {X : Type 0} → (X → Option Answer) → Result X CannotHap
 stops f (Ok x) = Ok (f x)
 stops f (Err e) = Err (Bad (Impossible e))
 
+-- the same, where the budget is not spent
 abbrev pub one-thing : {X : Type 0} → (X → Option Answer) → ℕ → Result X CannotHappen → Shown
 one-thing f n done = pick (eqb n 0) (Err BudgetSpent) (stops f done)
 
+-- shows nothing
 abbrev pub silent : Unit {0} → Option Answer
 silent _ = None
 

@@ -8,6 +8,7 @@ use Rattle.world.specs.declared.CannotHappen.the-variants.{BadLimits, NoOffice,
 use Rattle.player.specs.declared.trouble.Trouble.{Trouble}
 use Rattle.player.specs.declared.trouble.Trouble.the-variants.{Unread, NotOpened, OpenedAgain, Impossible}
 
+-- why something can't happen
 abbrev pub impossible-text : CannotHappen → List ℕ
 impossible-text BadLimits = codes "expected 2 to 4 offices and at most 64 parcels"
 impossible-text NoOffice = codes "an office that is not there"
@@ -16,6 +17,7 @@ impossible-text NeverGiven = codes "a slip that was never given out"
 impossible-text NeverSent = codes "a letter that was never sent"
 impossible-text NoMemory = codes "no memory left"
 
+-- what is wrong with a line
 abbrev pub trouble-text : Trouble → List ℕ
 trouble-text (Unread fault) = fault-text fault
 trouble-text NotOpened = codes "expected a line such as '3 offices, 8 parcels' first"

@@ -10,7 +10,6 @@ ghost use Rattle.world.specs.Outcome.{at-office, not-read-yet};
 ghost use Rattle.world.specs.View.{limits-of, journal-of};
 ghost use Rattle.player.specs.Happen.{spent, one-thing, silent, Calls, Plays};
 ghost use Rattle.player.specs.declared.trouble.Stop.the-variants.{BudgetSpent};
-use crate::trouble::MAX_LETTERS;
 use crate::trouble::Stop;
 use crate::trouble::StopFromCannot;
 use crate::trouble::Trouble;
@@ -18,6 +17,9 @@ use lines::Line;
 use parcels::Answer;
 use parcels::Call;
 use world::World;
+
+// The most letters that are sent in a world that is played.
+pub const MAX_PLAYED_LETTERS: u32 = 256;
 
 // A world, and how many more things may happen in it.
 #[derive(Drop)]
@@ -46,11 +48,11 @@ impl Player {
         Ok(())
     }
 
-    // What happened may have sent letters: few enough to go on.
-    fn count_letters(&self) -> Result<Option<Answer>, Stop>
+    // What happened may have sent letters: whether they are few enough to go on.
+    pub fn count_letters(&self) -> Result<Option<Answer>, Stop>
         ensures { λ r. ⌜ r ≡ Ok None ⌝ }
     {
-        if self.world.letters() > MAX_LETTERS {
+        if self.world.letters() > MAX_PLAYED_LETTERS {
             return Err(Stop::TooManyLetters);
         }
         Ok(None)
@@ -83,7 +85,6 @@ impl Player {
     {
         self.spend()?;
         let answer = self.world.call(at, call)?;
-        self.count_letters()?;
         Ok(Some(answer))
     }
 
@@ -94,7 +95,6 @@ impl Player {
     {
         self.spend()?;
         let answer = self.world.bytes(at, row)?;
-        self.count_letters()?;
         Ok(Some(answer))
     }
 

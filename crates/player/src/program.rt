@@ -35,8 +35,9 @@ impl Program {
         }
     }
 
-    // One file, which is a world of its own. What is wrong with it goes to standard error, as a line.
-    fn run_file(self, rt: &LibcRuntime, path: &str) -> Result<(), AnyError> {
+    // One file, which is a world of its own: whether to go on with the next. What is wrong goes to standard
+    // error, as a line.
+    fn run_file(self, rt: &LibcRuntime, path: &str) -> Result<bool, AnyError> {
         let file = match fs::read(rt, path) {
             Ok(file) => file,
             Err(e) => {
@@ -45,9 +46,13 @@ impl Program {
             }
         };
         let report = self.report(rt.alloc(), file.as_slice());
-        print!(rt, "{}", report.shown)?;
+        if let Err(e) = print!(rt, "{}", report.shown) {
+            eprintln!(rt, "{}: {e}", self.name())?;
+            return Err("output that can't be written".into());
+        }
         match report.end {
-            End::Done => Ok(()),
+            End::Done => Ok(true),
+            End::Stopped => Ok(false),
             End::Bad { line, trouble } => {
                 eprintln!(rt, "{path}:{line}: {trouble}")?;
                 Err("a bad line".into())
@@ -55,12 +60,21 @@ impl Program {
         }
     }
 
-    // All files that the program is given, one after the other, up to the first that is bad.
+    // The files that the program is given, one after the other, up to the first that stops or is bad.
     pub fn run(self, rt: &LibcRuntime) -> Result<(), AnyError> {
+        let paths = match env::args(rt) {
+            Ok(paths) => paths,
+            Err(e) => {
+                eprintln!(rt, "{}: {e}", self.name())?;
+                return Err("arguments that can't be read".into());
+            }
+        };
         let mut files = 0u64;
-        for path in env::args(rt)?.skip(1) {
-            self.run_file(rt, path.as_str())?;
+        for path in paths.skip(1) {
             files = files.saturating_add(1);
+            if !self.run_file(rt, path.as_str())? {
+                break;
+            }
         }
         if files == 0 {
             eprintln!(rt, "usage: {} FILE..", self.name())?;

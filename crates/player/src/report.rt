@@ -8,12 +8,10 @@ ghost use Rattle.answers.specs.Texts.{answer-text};
 ghost use Rattle.world.specs.declared.CannotHappen.the-variants.{NoMemory};
 ghost use Rattle.player.specs.declared.trouble.Stop.the-variants.{Bad};
 ghost use Rattle.player.specs.declared.trouble.Trouble.the-variants.{Impossible};
-ghost use Rattle.player.specs.Report.{Small, stop-line, Concludes};
+ghost use Rattle.player.specs.Report.{small, Small, stop-line, Concludes, Reports, Reports-nothing};
+use crate::happen::MAX_PLAYED_LETTERS;
 use crate::happen::Player;
 use crate::split::Lines;
-use crate::trouble::MAX_LETTERS;
-use crate::trouble::MAX_OFFICES;
-use crate::trouble::MAX_PARCELS;
 use crate::trouble::Stop;
 use crate::trouble::StopFromCannot;
 use crate::trouble::StopFromFault;
@@ -31,10 +29,17 @@ use world::World;
 // How many things happen in a world at most.
 pub const BUDGET: u32 = 65_536;
 
-// How a file came to its end: all of it was done, or as far as letters and budget allow; or a line is bad.
+// The most offices of a world that is played, and the most parcels of each.
+const MAX_PLAYED_OFFICES: u32 = 4;
+
+const MAX_PLAYED_PARCELS: u32 = 64;
+
+// How a file came to its end: all of it was done; or it stopped, since letters or things that happened were
+// too many; or a line is bad.
 #[derive(Drop)]
 pub enum End {
     Done,
+    Stopped,
     Bad { line: u64, trouble: Trouble },
 }
 
@@ -45,6 +50,13 @@ pub struct Report {
     pub end: End,
 }
 
+// Whether a world is small enough to be played.
+fn is_small(offices: u32, parcels: u32) -> bool
+    ensures { λ r. ⌜ r ≡ small offices parcels ⌝ }
+{
+    offices <= MAX_PLAYED_OFFICES && parcels <= MAX_PLAYED_PARCELS
+}
+
 // Opens the world that the first line that is not blank asks for. None where there is no such line.
 fn open(heap: Global, lines: &mut Lines) -> Result<Option<World>, Stop>
     ensures { λ r. ⌜ made r Small ⌝ }
@@ -53,7 +65,7 @@ fn open(heap: Global, lines: &mut Lines) -> Result<Option<World>, Stop>
         match read_line(heap, line)? {
             Line::Blank => {}
             Line::Opening { offices, parcels } => {
-                if offices > MAX_OFFICES || parcels > MAX_PARCELS {
+                if !is_small(offices, parcels) {
                     return Err(Stop::Bad(Trouble::Impossible(CannotHappen::BadLimits)));
                 }
                 return Ok(Some(World::open(heap, offices, parcels)?));
@@ -84,6 +96,7 @@ fn run(heap: Global, lines: &mut Lines, budget: u32, shown: &mut String) -> Resu
         if let Some(answer) = player.happen(read_line(heap, line)?)? {
             show(answer, shown)?;
         }
+        player.count_letters()?;
     }
     Ok(())
 }
@@ -98,25 +111,34 @@ fn show_stop(what: &str, most: u32, shown: &mut String) -> Result<(), Stop>
     Ok(())
 }
 
-// The report of a run that stopped so, or did not, at this line.
+// The report of a run that ended so at this line, after these answers.
 fn conclude(ran: Result<(), Stop>, line: u64, budget: u32, mut shown: String) -> Report
     ensures { λ r. ⌜ Concludes ran line budget (string-bytes shown) r ⌝ }
 {
-    let ended = match ran {
-        Ok(()) => Ok(()),
-        Err(Stop::TooManyLetters) => show_stop("letters were sent", MAX_LETTERS, &mut shown),
+    let stopped = match ran {
+        Ok(()) => {
+            return Report {
+                shown,
+                end: End::Done,
+            };
+        }
+        Err(Stop::TooManyLetters) => {
+            show_stop("letters were sent", MAX_PLAYED_LETTERS, &mut shown)
+        }
         Err(Stop::BudgetSpent) => show_stop("things happened", budget, &mut shown),
         Err(stop) => Err(stop),
     };
-    let end = match ended {
+    let end = match stopped {
         Err(Stop::Bad(trouble)) => End::Bad { line, trouble },
-        _ => End::Done,
+        _ => End::Stopped,
     };
     Report { shown, end }
 }
 
 // Plays a world file in which at most so many things happen: an answer for each call.
-pub fn play(heap: Global, file: &[u8], budget: u32) -> Report {
+pub fn play(heap: Global, file: &[u8], budget: u32) -> Report
+    ensures { λ r. ⌜ Reports budget r ⌝ }
+{
     let mut shown = String::new(heap);
     let mut lines = Lines::new(file);
     let ran = run(heap, &mut lines, budget, &mut shown);
@@ -125,7 +147,9 @@ pub fn play(heap: Global, file: &[u8], budget: u32) -> Report {
 
 // Plays a world file and tells of each parcel, in the order of keys, where it is by what was taken
 // everywhere. In this stage no call is taken, so there is none to tell of.
-pub fn locate(heap: Global, file: &[u8], budget: u32) -> Report {
+pub fn locate(heap: Global, file: &[u8], budget: u32) -> Report
+    ensures { λ r. ⌜ Reports-nothing budget r ⌝ }
+{
     let mut answers = String::new(heap);
     let mut lines = Lines::new(file);
     let ran = run(heap, &mut lines, budget, &mut answers);

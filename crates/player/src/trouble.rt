@@ -9,14 +9,6 @@ use lines::FaultDisplay;
 use std::fmt;
 use world::CannotHappen;
 
-// The most letters that are sent in a world that is played.
-pub const MAX_LETTERS: u32 = 256;
-
-// The most offices of a world that is played, and the most parcels of each.
-pub const MAX_OFFICES: u32 = 4;
-
-pub const MAX_PARCELS: u32 = 64;
-
 // What is wrong with a line.
 #[derive(Drop)]
 pub enum Trouble {

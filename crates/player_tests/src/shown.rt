@@ -11,7 +11,7 @@ use std::test::*;
 fn whole(heap: Global, report: Report) -> Result<String, AllocError> {
     let shown = report.shown;
     match report.end {
-        End::Done => Ok(shown),
+        End::Done | End::Stopped => Ok(shown),
         End::Bad { line, trouble } => format!(heap, "{shown}line {line}: {trouble}"),
     }
 }

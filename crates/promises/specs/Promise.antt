@@ -28,17 +28,19 @@ use Rattle.promises.specs.World.{Memory, Letter, Row, Office, Said, World, Liv
 abbrev pub Good-limits : Stage → Limits → Type 0
 Good-limits can l = (fewest-offices ≤ l .offices) × (l .offices ≤ most-offices) × (l .parcels ≤ most-parcels) × ((k : ℕ) → l .can k ≡ can k)
 
--- in truth, by what was taken everywhere: an office's book, and the steps of a parcel
+-- an office's book in truth, by what was taken everywhere
 abbrev pub truth : Limits → List Said → ℕ → Book
 truth l xs o = book-of l o (taken xs) []
 
+-- the steps of a parcel in truth, by what was taken everywhere
 abbrev pub in-truth : Limits → List Said → ℕ → List Move
 in-truth l xs p = moves l (taken xs) p
 
+-- what stands for a step that is not there
 abbrev pub no-move : Move
 no-move = record { kind = Accepted; office = 0 }
 
--- what was told of a parcel at an office so far: one more than the largest step, or 0 for none
+-- one more than the step that an answer tells, or 0 where it tells none
 abbrev pub step-told : Answer → ℕ
 step-told (Refused refusal) = 0
 step-told (Number n) = 0
@@ -47,6 +49,7 @@ step-told (At step) = suc (step .number)
 step-told NothingHeard = 0
 step-told (Two m n) = 0
 
+-- whether a call asks where this parcel is
 abbrev pub asks-for : Call → ℕ → Bool
 asks-for (Accept dest amount) p = false
 asks-for (Send key to) p = false
@@ -58,10 +61,12 @@ asks-for (WhereIs key) p = eqb key p
 asks-for (Here from) p = false
 asks-for Sums p = false
 
+-- the same of a row of bytes
 abbrev pub row-asks-for : Row → ℕ → Bool
 row-asks-for (Ok c) p = asks-for c p
 row-asks-for (Err k) p = false
 
+-- what was told of a parcel at an office so far: one more than the largest step, or 0 for none
 unfoldable pub told-so-far : List Said → ℕ → ℕ → ℕ
 told-so-far [] o p = 0
 told-so-far (x ∷ xs) o p =
@@ -115,6 +120,7 @@ Right-pay l xs o p (At s) = ⊥
 Right-pay l xs o p NothingHeard = ⊥
 Right-pay l xs o p (Two m n) = ⊥
 
+-- each call: where a parcel is and paying go by news too, and all others by the book alone
 abbrev pub Right-answer : Limits → List Said → ℕ → Call → Answer → Type 0
 Right-answer l xs o (Accept dest amount) a = Right-own l xs o (Accept dest amount) a
 Right-answer l xs o (Send key to) a = Right-own l xs o (Send key to) a
@@ -156,6 +162,8 @@ News-comes can f =
     f .Called l (origin p) (v .memory (origin p)) (Ok (Pay p)) m a ls → a ≡ Number (own b p .amount))
 
 -- THIRD: memory and letters stay small, however often the same letter comes.
+
+-- numbers that are all below one
 unfoldable pub all-below : ℕ → List ℕ → Bool
 all-below n [] = true
 all-below n (x ∷ xs) = ltb x n && all-below n xs
@@ -169,6 +177,7 @@ short (x ∷ xs) = (leb (length (x .text)) letter-bytes && all-below 256 (x .tex
 abbrev pub words-for : ℕ → ℕ
 words-for parcels = words-a-parcel * parcels + words-more
 
+-- memory is within its bound, its words and the letters' bytes fit, and a tick, a letter and a call send few letters
 abbrev pub Stays-small : Stage → Office → Type 0
 Stays-small can f =
     (l : Limits) (w : World) (o : ℕ) → Good-limits can l → Lived f l w → o < l .offices →
@@ -211,6 +220,7 @@ goes-on gone SentOn = None
 goes-on gone ComeIn = None
 goes-on gone HandedOut = None
 
+-- each step goes on from the one before
 unfoldable pub in-turn : Option Way → List Move → Bool
 in-turn None ss = false
 in-turn (Some w) [] = true
@@ -228,11 +238,12 @@ Not-at-two =
     (can : Stage) (l : Limits) (xs : List Said) (p o q : ℕ) → Good-limits can l → Happened l xs →
     is-here (truth l xs o) p ≡ true → is-here (truth l xs q) p ≡ true → o ≡ q
 
--- 3. no more was paid out than was collected, all offices together
+-- a sum over all offices
 unfoldable pub over-offices : ℕ → (ℕ → ℕ) → ℕ
 over-offices zero f = 0
 over-offices (suc n) f = f n + over-offices n f
 
+-- 3. no more was paid out than was collected, all offices together
 abbrev pub No-more-paid : Type 0
 No-more-paid =
     (can : Stage) (l : Limits) (xs : List Said) → Good-limits can l → Happened l xs →

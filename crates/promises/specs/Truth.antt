@@ -26,10 +26,12 @@ pub record Move : Type 0 where
   pub kind : Kind
   pub office : ℕ
 
--- the step that a call makes at an office with this book, if it is one of this parcel and is not turned away
+-- one step, if it was taken
 abbrev pub one-move : Bool → Kind → ℕ → List Move
 one-move taken kind o = pick taken (record { kind = kind; office = o } ∷ []) []
 
+-- the step of this parcel that a call makes at an office with this book: none if the call is turned away, or is
+-- about another parcel
 unfoldable pub move-of : Limits → Book → ℕ → Call → ℕ → List Move
 move-of l b o (Accept dest amount) p = one-move (not (isSome (turned l o b (Accept dest amount))) && eqb (new-key o b) p) Accepted o
 move-of l b o (Send key to) p = one-move (not (isSome (turned l o b (Send key to))) && eqb key p) SentOn o

@@ -18,11 +18,11 @@ use Rattle.parcels.specs.declared.Answer.{Answer}
 use Rattle.parcels.specs.declared.Answer.the-variants.{Refused, Number, Given, At, NothingHeard, Two}
 use Rattle.promises.specs.Truth.{Taken}
 
--- an office's memory: numbers of four bytes
+-- an office's memory: words, which stay small by a promise
 abbrev pub Memory : Type 0
 Memory = List ℕ
 
--- a letter: to which office, and its bytes
+-- a letter: to which office, and its bytes, which are few and small by a promise
 pub record Letter : Type 0 where
   pub to : ℕ
   pub text : List ℕ
@@ -31,10 +31,10 @@ pub record Letter : Type 0 where
 abbrev pub Row : Type 0
 Row = Result Call ℕ
 
--- An office, by what the contracts of its functions allow. All offices run the same program, each with its
--- own number. Opened: which memory it may begin with. Called, Heard and Ticked: from which memory, by a row
--- of bytes, a letter's bytes or a tick of its clock, it may come to which memory, with which answer, and
--- which letters it may send then, to whom. The functions return for every input, so a step is never wanting.
+-- An office, by what the contracts of its functions allow. All offices run the same program, each with its own
+-- number and the same limits, which it keeps beside its memory. Opened: which memory it may begin with. Called,
+-- Heard and Ticked: from which memory, by a row of bytes, a letter's bytes or a tick of its clock, it may come to
+-- which memory, with which answer, and which letters it may send then, to whom.
 pub record Office : Type 1 where
   pub Opened : Limits → ℕ → Memory → Type 0
   pub Called : Limits → ℕ → Memory → Row → Memory → Answer → List Letter → Type 0
@@ -54,6 +54,7 @@ pub record World : Type 0 where
   pub sent : List Letter
   pub said : List Said
 
+-- the offices are open, and nothing happened yet
 abbrev pub new-world : (ℕ → Memory) → World
 new-world m = record { memory = m; sent = []; said = [] }
 
@@ -61,11 +62,12 @@ new-world m = record { memory = m; sent = []; said = [] }
 abbrev pub with-memory : (ℕ → Memory) → ℕ → Memory → ℕ → Memory
 with-memory ms o m q = pick (eqb q o) m (ms q)
 
--- the world after a call, and after a letter or a tick
+-- the world after a call
 abbrev pub after-call : World → ℕ → Row → Memory → Answer → List Letter → World
 after-call w o r m a ls =
     record { memory = with-memory (w .memory) o m; sent = w .sent ++ ls; said = record { at = o; row = r; answer = a } ∷ w .said }
 
+-- the world after a letter or a tick
 abbrev pub after-news : World → ℕ → Memory → List Letter → World
 after-news w o m ls = record { memory = with-memory (w .memory) o m; sent = w .sent ++ ls; said = w .said }
 
@@ -91,6 +93,7 @@ slip-known (WhereIs key) xs = Unit {0}
 slip-known (Here from) xs = Unit {0}
 slip-known Sums xs = Unit {0}
 
+-- the same of a row of bytes
 abbrev pub row-known : Row → List Said → Type 0
 row-known (Ok c) xs = slip-known c xs
 row-known (Err place) xs = Unit {0}
@@ -111,6 +114,7 @@ readable (WhereIs key) = field key
 readable (Here from) = field from
 readable Sums = true
 
+-- the same of a row of bytes: its calls are such ones
 abbrev pub row-readable : Row → Bool
 row-readable (Ok c) = readable c
 row-readable (Err place) = true
@@ -154,11 +158,12 @@ not-refused (At step) = true
 not-refused NothingHeard = true
 not-refused (Two m n) = true
 
--- the calls that were taken, in the order in which they were: those that were not refused
+-- a call that was not refused was taken
 abbrev pub taken-by : ℕ → Row → Answer → List Taken
 taken-by o (Ok c) a = pick (not-refused a) (record { at = o; call = c } ∷ []) []
 taken-by o (Err place) a = []
 
+-- the calls that were taken, in the order in which they were
 unfoldable pub taken : List Said → List Taken
 taken [] = []
 taken (x ∷ xs) = taken xs ++ taken-by (x .at) (x .row) (x .answer)

@@ -32,7 +32,7 @@ Called l xs o c (Err NoMemory) ys = (o < l .offices) × (readable c ≡ true) ×
 Called l xs o c (Err BadLimits) ys = ⊥
 Called l xs o c (Err NeverSent) ys = ⊥
 
--- rows of bytes are not read in this stage: each is turned away as what can't be done yet, before it comes to an office
+-- rows of bytes are not read in this stage: each is turned away as what can't be done yet, before the office is asked
 abbrev pub not-read-yet : Answer
 not-read-yet = Refused (record { reason = OutOfRange; place = 0 })
 

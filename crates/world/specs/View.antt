@@ -6,6 +6,7 @@ use Rattle.office.specs.Opening.{stage-limits}
 use Rattle.world.specs.declared.Exchange.{Exchange}
 use Rattle.world.specs.declared.World.{World}
 
+-- its stage, how many offices it has, and their limit of parcels
 abbrev pub limits-of : World → Limits
 limits-of w = stage-limits (vec-len (w .offices)) (w .parcels)
 

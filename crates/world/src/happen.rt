@@ -113,7 +113,8 @@ impl World {
         Ok(())
     }
 
-    // A row of bytes is handed to an office as a call.
+    // A row of bytes comes to an office as a call. In this stage none is read: each is turned away as what can't be
+    // done yet, and is no call that the office answered.
     pub fn bytes(&self, at: u32, _row: &[u8]) -> Result<Answer, CannotHappen>
         ensures { λ r. ⌜ r ≡ at-office (limits-of (now (self .entry)) .offices) at not-read-yet ⌝ }
     {

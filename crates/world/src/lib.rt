@@ -1,4 +1,4 @@
-// The world of offices and lines: what can happen happens here, one thing at a time, and each answer is right.
+// The world of offices and lines: what can happen happens here, one thing at a time, and each call is answered right.
 ghost use mathlib.Core.Path.{_≡_};
 ghost use mathlib.Core.Bool.{true};
 ghost use Prim.Native.Nat.{ℕ, _<_};
