@@ -1,3 +1,4 @@
+pub mod Limits
 pub mod Cut
 pub mod Happen
 pub mod Report

@@ -1,9 +1,8 @@
 -- What is shown of a world file, and how it ends.
 use mathlib.Core.Path.{_≡_}
 use mathlib.Core.List.{List, [], _∷_, _++_}
-use mathlib.Core.Bool.{Bool, true, _&&_}
+use mathlib.Core.Bool.{true}
 use Prim.Native.Nat.{ℕ}
-use lib.Dec.{leb}
 use lib.Chars.{codes}
 use Rattle.std.specs.Of.String.{string-bytes}
 use Rattle.std.specs.Written.{decimal}
@@ -14,6 +13,7 @@ use Rattle.std.specs.declared.result.Result.the-variants.{Ok, Err}
 use Rattle.world.specs.declared.CannotHappen.the-variants.{NoMemory}
 use Rattle.world.specs.declared.World.{World}
 use Rattle.world.specs.View.{limits-of, journal-of}
+use Rattle.player.specs.Limits.{most-played-letters, small}
 use Rattle.player.specs.declared.trouble.Stop.{Stop}
 use Rattle.player.specs.declared.trouble.Stop.the-variants.{BudgetSpent, TooManyLetters, Bad}
 use Rattle.player.specs.declared.trouble.Trouble.the-variants.{Impossible}
@@ -22,20 +22,6 @@ use Rattle.player.specs.declared.program.Program.the-variants.{Play, Locate}
 use Rattle.player.specs.declared.report.End.{End}
 use Rattle.player.specs.declared.report.End.the-variants.{Done, Stopped, Bad as BadLine}
 use Rattle.player.specs.declared.report.Report.{Report}
-
--- the most offices of a world that is played, the most parcels of each, and the most letters that are sent in it
-abbrev pub most-played-offices : ℕ
-most-played-offices = 4
-
-abbrev pub most-played-parcels : ℕ
-most-played-parcels = 64
-
-abbrev pub most-played-letters : ℕ
-most-played-letters = 256
-
--- whether a world is small enough to be played
-abbrev pub small : ℕ → ℕ → Bool
-small offices parcels = leb offices most-played-offices && leb parcels most-played-parcels
 
 -- a world that is played is small, and nothing was said in it at the start
 abbrev pub Small : Option World → Type 0

@@ -8,6 +8,7 @@ ghost use Rattle.parcels.specs.Book.{pick};
 ghost use Rattle.world.specs.declared.CannotHappen.the-variants.{NeverSent};
 ghost use Rattle.world.specs.Outcome.{at-office, not-read-yet};
 ghost use Rattle.world.specs.View.{limits-of, journal-of};
+ghost use Rattle.player.specs.Limits.{most-played-letters};
 ghost use Rattle.player.specs.Happen.{spent, one-thing, silent, Calls, Plays};
 ghost use Rattle.player.specs.declared.trouble.Stop.the-variants.{BudgetSpent};
 use crate::trouble::Stop;
@@ -20,6 +21,13 @@ use world::World;
 
 // The most letters that are sent in a world that is played.
 pub const MAX_PLAYED_LETTERS: u32 = 256;
+
+// Whether so many letters leave a world to be played on.
+fn few_enough(letters: u32) -> bool
+    ensures { λ r. ⌜ r ≡ leb letters most-played-letters ⌝ }
+{
+    letters <= MAX_PLAYED_LETTERS
+}
 
 // A world, and how many more things may happen in it.
 #[derive(Drop)]
@@ -52,7 +60,7 @@ impl Player {
     pub fn count_letters(&self) -> Result<Option<Answer>, Stop>
         ensures { λ r. ⌜ r ≡ Ok None ⌝ }
     {
-        if self.world.letters() > MAX_PLAYED_LETTERS {
+        if !few_enough(self.world.letters()) {
             return Err(Stop::TooManyLetters);
         }
         Ok(None)
