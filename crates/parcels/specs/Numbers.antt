@@ -1,12 +1,20 @@
 -- The numbers by which calls, kinds of step, reasons and answers are known outside, and the limits.
+use mathlib.Core.Path.{_≡_}
+use mathlib.Core.Bool.{Bool, true, _&&_}
 use mathlib.Core.List.{List, [], _∷_}
 use Prim.Native.Nat.{ℕ}
+use lib.Dec.{ltb}
+use Rattle.std.specs.declared.option.Option.{Option}
+use Rattle.std.specs.declared.option.Option.the-variants.{Some, None}
 use Rattle.parcels.specs.declared.Kind.{Kind}
 use Rattle.parcels.specs.declared.Kind.the-variants.{Accepted, SentOn, ComeIn, HandedOut}
+use Rattle.parcels.specs.declared.Step.{Step}
+use Rattle.parcels.specs.declared.Slip.{Slip}
 use Rattle.parcels.specs.declared.Call.{Call}
 use Rattle.parcels.specs.declared.Call.the-variants.{Accept, Send, SlipAgain, TakeIn, HandOut, Pay, WhereIs, Here, Sums}
 use Rattle.parcels.specs.declared.Reason.{Reason}
 use Rattle.parcels.specs.declared.Reason.the-variants.{Unreadable, OutOfRange, BadOpening, NotHere, WrongSlip, OtherOffice, NothingToPay, PaidAlready, OverLimit}
+use Rattle.parcels.specs.declared.Refusal.{Refusal}
 use Rattle.parcels.specs.declared.Answer.{Answer}
 use Rattle.parcels.specs.declared.Answer.the-variants.{Refused, Number, Given, At, NothingHeard, Two}
 
@@ -33,6 +41,15 @@ keys-of-an-office = 65536
 -- a field of a call, and a word of an office's memory, is a number of four bytes, below this
 abbrev pub four-bytes : ℕ
 four-bytes = 4294967296
+
+-- a number in an answer has eight bytes, and is below this
+abbrev pub eight-bytes : ℕ
+eight-bytes = 18446744073709551616
+
+-- numbers that are all below one
+abbrev pub all-below : ℕ → List ℕ → Bool
+all-below n [] = true
+all-below n (x ∷ xs) = ltb x n && all-below n xs
 
 -- the most bytes of a letter
 abbrev pub letter-bytes : ℕ
@@ -65,6 +82,22 @@ call-number (WhereIs key) = 6
 call-number (Here from) = 7
 call-number Sums = 8
 
+-- the numbers of a slip, in their order
+abbrev pub slip-values : Slip → List ℕ
+slip-values s = s .key ∷ (s .step ∷ (s .from ∷ (s .to ∷ (s .dest ∷ (s .amount ∷ [])))))
+
+-- the values that a call carries behind its first byte
+abbrev pub call-values : Call → List ℕ
+call-values (Accept dest amount) = dest ∷ (amount ∷ [])
+call-values (Send key to) = key ∷ (to ∷ [])
+call-values (SlipAgain key) = key ∷ []
+call-values (TakeIn slip) = slip-values slip
+call-values (HandOut key) = key ∷ []
+call-values (Pay key) = key ∷ []
+call-values (WhereIs key) = key ∷ []
+call-values (Here from) = from ∷ []
+call-values Sums = []
+
 -- why a call is turned away
 abbrev pub reason-number : Reason → ℕ
 reason-number Unreadable = 1
@@ -86,11 +119,24 @@ answer-number (At step) = 3
 answer-number NothingHeard = 4
 answer-number (Two m n) = 5
 
+-- the numbers of a refusal, in their order
+abbrev pub refusal-values : Refusal → List ℕ
+refusal-values r = reason-number (r .reason) ∷ (r .place ∷ [])
+
+-- the numbers of a step, in their order
+abbrev pub step-values : Step → List ℕ
+step-values s = s .number ∷ (kind-number (s .kind) ∷ (s .office ∷ []))
+
 -- the values that an answer carries behind its first byte
 abbrev pub answer-values : Answer → List ℕ
-answer-values (Refused r) = reason-number (r .reason) ∷ (r .place ∷ [])
+answer-values (Refused r) = refusal-values r
 answer-values (Number n) = n ∷ []
-answer-values (Given s) = s .key ∷ (s .step ∷ (s .from ∷ (s .to ∷ (s .dest ∷ (s .amount ∷ [])))))
-answer-values (At s) = s .number ∷ (kind-number (s .kind) ∷ (s .office ∷ []))
+answer-values (Given s) = slip-values s
+answer-values (At s) = step-values s
 answer-values NothingHeard = []
 answer-values (Two m n) = m ∷ (n ∷ [])
+
+-- which one has this number; none, where none has it
+abbrev pub By-number : {X : Type 0} → (X → ℕ) → ℕ → Option X → Type 0
+By-number number n (Some x) = number x ≡ n
+By-number {X} number n None = (x : X) → number x ≡ n → ⊥

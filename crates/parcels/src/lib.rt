@@ -1,9 +1,9 @@
 // What clerks enter at an office and what it answers, as types. What each call does stands in specs/.
 ghost use mathlib.Core.Path.{_≡_};
-ghost use Rattle.parcels.specs.Numbers.{call-number, kind-number, reason-number};
+ghost use Rattle.parcels.specs.Numbers.{call-number, kind-number, reason-number, answer-number, By-number};
 
 // What a step did with its parcel.
-#[derive(Clone, Copy)]
+#[derive(Clone, Copy, PartialEq, Eq)]
 pub enum Kind {
     Accepted,
     SentOn,
@@ -12,7 +12,7 @@ pub enum Kind {
 }
 
 // A step that a parcel took: its number, from 0; its kind; the office that made it.
-#[derive(Clone, Copy)]
+#[derive(Clone, Copy, PartialEq, Eq)]
 pub struct Step {
     pub number: u64,
     pub kind: Kind,
@@ -45,7 +45,7 @@ pub struct Entry {
 }
 
 // What a clerk enters or asks.
-#[derive(Clone, Copy)]
+#[derive(Clone, Copy, PartialEq, Eq)]
 pub enum Call {
     Accept { dest: u32, amount: u32 },
     Send { key: u32, to: u32 },
@@ -60,7 +60,7 @@ pub enum Call {
 
 // Why a call is turned away, in the order of the list (pay is checked for an amount before, and for news after,
 // whether it was paid already).
-#[derive(Clone, Copy)]
+#[derive(Clone, Copy, PartialEq, Eq)]
 pub enum Reason {
     Unreadable,
     OutOfRange,
@@ -74,14 +74,14 @@ pub enum Reason {
 }
 
 // A reason, and the place in the call that it is about.
-#[derive(Clone, Copy)]
+#[derive(Clone, Copy, PartialEq, Eq)]
 pub struct Refusal {
     pub reason: Reason,
     pub place: u64,
 }
 
 // What an office answers.
-#[derive(Clone, Copy)]
+#[derive(Clone, Copy, PartialEq, Eq)]
 pub enum Answer {
     Refused(Refusal),
     Number(u64),
@@ -100,6 +100,18 @@ impl Kind {
             Kind::SentOn => 1,
             Kind::ComeIn => 2,
             Kind::HandedOut => 3,
+        }
+    }
+
+    pub fn from_number(n: u64) -> Option<Kind>
+        ensures { λ r. ⌜ By-number kind-number n r ⌝ }
+    {
+        match n {
+            0 => Some(Kind::Accepted),
+            1 => Some(Kind::SentOn),
+            2 => Some(Kind::ComeIn),
+            3 => Some(Kind::HandedOut),
+            _ => None,
         }
     }
 }
@@ -136,6 +148,38 @@ impl Reason {
             Reason::NothingToPay => 7,
             Reason::PaidAlready => 8,
             Reason::OverLimit => 9,
+        }
+    }
+
+    pub fn from_number(n: u64) -> Option<Reason>
+        ensures { λ r. ⌜ By-number reason-number n r ⌝ }
+    {
+        match n {
+            1 => Some(Reason::Unreadable),
+            2 => Some(Reason::OutOfRange),
+            3 => Some(Reason::BadOpening),
+            4 => Some(Reason::NotHere),
+            5 => Some(Reason::WrongSlip),
+            6 => Some(Reason::OtherOffice),
+            7 => Some(Reason::NothingToPay),
+            8 => Some(Reason::PaidAlready),
+            9 => Some(Reason::OverLimit),
+            _ => None,
+        }
+    }
+}
+
+impl Answer {
+    pub fn number(self) -> u8
+        ensures { λ r. ⌜ r ≡ answer-number self ⌝ }
+    {
+        match self {
+            Answer::Refused(_) => 0,
+            Answer::Number(_) => 1,
+            Answer::Given(_) => 2,
+            Answer::At(_) => 3,
+            Answer::NothingHeard => 4,
+            Answer::Two(_, _) => 5,
         }
     }
 }

@@ -1,0 +1,43 @@
+-- The values of refusals, steps and slips fit eight bytes each.
+use mathlib.Core.Path.{_≡_, refl}
+use mathlib.Core.Bool.{true}
+use mathlib.Core.List.{List}
+use Prim.Native.Nat.{ℕ}
+use native.Mathlib.Omega.{arith}
+use lib.Dec.{ltb}
+use Rattle.std.proofs.shelf.Ways.{tells}
+use Rattle.parcels.specs.Numbers.{eight-bytes, all-below, kind-number, reason-number, refusal-values, step-values, slip-values}
+use Rattle.parcels.specs.declared.Kind.{Kind}
+use Rattle.parcels.specs.declared.Kind.the-variants.{Accepted, SentOn, ComeIn, HandedOut}
+use Rattle.parcels.specs.declared.Reason.{Reason}
+use Rattle.parcels.specs.declared.Reason.the-variants.{Unreadable, OutOfRange, BadOpening, NotHere, WrongSlip, OtherOffice, NothingToPay, PaidAlready, OverLimit}
+use Rattle.parcels.specs.declared.Step.{Step}
+use Rattle.parcels.specs.declared.Slip.{Slip}
+use Rattle.parcels.specs.declared.Refusal.{Refusal}
+use Rattle.wire.specs.Answers.{refusal-fits, slip-fits, step-fits}
+
+reason-small : (r : Reason) → ltb (reason-number r) eight-bytes ≡ true
+reason-small Unreadable = refl
+reason-small OutOfRange = refl
+reason-small BadOpening = refl
+reason-small NotHere = refl
+reason-small WrongSlip = refl
+reason-small OtherOffice = refl
+reason-small NothingToPay = refl
+reason-small PaidAlready = refl
+reason-small OverLimit = refl
+
+kind-small : (k : Kind) → ltb (kind-number k) eight-bytes ≡ true
+kind-small Accepted = refl
+kind-small SentOn = refl
+kind-small ComeIn = refl
+kind-small HandedOut = refl
+
+pub refusal-small : (r : Refusal) → refusal-fits r ≡ true → all-below eight-bytes (refusal-values r) ≡ true
+refusal-small r fits = let h = reason-small (r .reason) in grind (arith, tells)
+
+pub step-small : (s : Step) → step-fits s ≡ true → all-below eight-bytes (step-values s) ≡ true
+step-small s fits = let h = kind-small (s .kind) in grind (arith, tells)
+
+pub slip-small : (s : Slip) → slip-fits s ≡ true → all-below eight-bytes (slip-values s) ≡ true
+slip-small s fits = grind (arith, tells)

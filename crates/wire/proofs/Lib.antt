@@ -1,0 +1,6 @@
+mod Numbers
+mod Values
+mod CallReadings
+mod Writing
+mod Fields
+mod AnswerReadings

@@ -1,0 +1,63 @@
+-- Which answer a row of bytes is; and how an answer is written.
+use mathlib.Core.Path.{_≡_}
+use mathlib.Core.Bool.{Bool, true, _&&_}
+use mathlib.Core.List.{List, [], _∷_}
+use Prim.Native.Nat.{ℕ, _*_, _<_, _≤_}
+use lib.Dec.{ltb}
+use lib.ListN.{length}
+use Rattle.std.specs.declared.option.Option.{Option}
+use Rattle.std.specs.declared.option.Option.the-variants.{Some, None}
+use Rattle.parcels.specs.Numbers.{four-bytes, eight-bytes, all-below, answer-number, answer-values}
+use Rattle.parcels.specs.declared.Step.{Step}
+use Rattle.parcels.specs.declared.Slip.{Slip}
+use Rattle.parcels.specs.declared.Refusal.{Refusal}
+use Rattle.parcels.specs.declared.Answer.{Answer}
+use Rattle.parcels.specs.declared.Answer.the-variants.{Refused, Number, Given, At, NothingHeard, Two}
+use Rattle.wire.specs.Layout.{lent-for-answer, in-row, answer-bytes, Written}
+
+-- values that an answer can have: keys, offices and amounts below four bytes, all others below eight
+abbrev pub refusal-fits : Refusal → Bool
+refusal-fits r = ltb (r .place) eight-bytes
+
+abbrev pub slip-fits : Slip → Bool
+slip-fits s = ltb (s .step) eight-bytes && all-below four-bytes (s .key ∷ (s .from ∷ (s .to ∷ (s .dest ∷ (s .amount ∷ [])))))
+
+abbrev pub step-fits : Step → Bool
+step-fits s = ltb (s .number) eight-bytes && ltb (s .office) four-bytes
+
+abbrev pub fits : Answer → Bool
+fits (Refused r) = refusal-fits r
+fits (Number n) = ltb n eight-bytes
+fits (Given s) = slip-fits s
+fits (At s) = step-fits s
+fits NothingHeard = true
+fits (Two m n) = ltb m eight-bytes && ltb n eight-bytes
+
+-- the row is this answer
+abbrev pub Is-answer : List ℕ → Answer → Type 0
+Is-answer row a = (fits a ≡ true) × (row ≡ answer-bytes a)
+
+-- what a row of bytes is: an answer, or none
+abbrev pub Reads-answer : List ℕ → Option Answer → Type 0
+Reads-answer row (Some a) = Is-answer row a
+Reads-answer row None = (a : Answer) → Is-answer row a → ⊥
+
+-- the values, so many of eight bytes each, that a part of a row holds; none, where the part is not as long as they are
+abbrev pub Holds : ℕ → List ℕ → Option (List ℕ) → Type 0
+Holds n part (Some ns) = (length ns ≡ n) × (all-below eight-bytes ns ≡ true) × (part ≡ in-row 8 ns)
+Holds n part None = length part ≡ 8 * n → ⊥
+
+-- what the part behind the first byte is, by which values are meant and which can be
+abbrev pub Reads-part : {X : Type 0} → (X → Bool) → (X → List ℕ) → List ℕ → Option X → Type 0
+Reads-part can values part (Some x) = (can x ≡ true) × (part ≡ in-row 8 (values x))
+Reads-part {X} can values part None = (x : X) → can x ≡ true → part ≡ in-row 8 (values x) → ⊥
+
+-- the answer with this first byte and this part behind it
+abbrev pub Behind : ℕ → List ℕ → Option Answer → Type 0
+Behind k part (Some a) = (answer-number a ≡ k) × (fits a ≡ true) × (part ≡ in-row 8 (answer-values a))
+Behind k part None = (a : Answer) → answer-number a ≡ k → fits a ≡ true → part ≡ in-row 8 (answer-values a) → ⊥
+
+-- an answer is written where the bytes lent are as many as they should be; else they stay as they were
+abbrev pub Writes-answer : Answer → List ℕ → List ℕ → Option ℕ → Type 0
+Writes-answer a before after (Some n) = (fits a ≡ true) × (lent-for-answer ≤ length before) × Written (answer-bytes a) before after n
+Writes-answer a before after None = (length before < lent-for-answer) × (after ≡ before)

@@ -1,0 +1,46 @@
+// Numbers as bytes, low byte first.
+ghost use mathlib.Core.Path.{_≡_};
+ghost use lib.ListN.{length};
+ghost use Rattle.wire.specs.Layout.{low-first};
+
+// The first number that four bytes can't hold.
+pub const FIELD_END: u64 = 4_294_967_296;
+
+// The number that four bytes hold.
+pub fn read_u32(part: &[u8]) -> u32
+    requires { ⌜ length (now part) ≡ 4 ⌝ }
+    ensures { λ r. ⌜ now (part .entry) ≡ low-first 4 r ⌝ }
+{
+    u32::from_le_bytes([part[0], part[1], part[2], part[3]])
+}
+
+pub fn write_u32(part: &mut [u8], n: u32)
+    requires { ⌜ length (now part) ≡ 4 ⌝ }
+    ensures { λ _. ⌜ now (part .exit) ≡ low-first 4 n ⌝ }
+{
+    part.copy_from_slice(&n.to_le_bytes());
+}
+
+// The number that eight bytes hold.
+pub fn read_u64(part: &[u8]) -> u64
+    requires { ⌜ length (now part) ≡ 8 ⌝ }
+    ensures { λ r. ⌜ now (part .entry) ≡ low-first 8 r ⌝ }
+{
+    u64::from_le_bytes([
+        part[0],
+        part[1],
+        part[2],
+        part[3],
+        part[4],
+        part[5],
+        part[6],
+        part[7],
+    ])
+}
+
+pub fn write_u64(part: &mut [u8], n: u64)
+    requires { ⌜ length (now part) ≡ 8 ⌝ }
+    ensures { λ _. ⌜ now (part .exit) ≡ low-first 8 n ⌝ }
+{
+    part.copy_from_slice(&n.to_le_bytes());
+}
