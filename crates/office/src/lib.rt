@@ -1,12 +1,15 @@
-// One office: opened with limits, it answers calls. In this stage it can do none of them.
+// One office: opened with limits, it answers calls that come as bytes. In this stage it can do none of them.
 ghost use mathlib.Core.Path.{_≡_};
 ghost use Rattle.parcels.specs.Book.{Book};
 ghost use Rattle.parcels.specs.Calls.{answered, after};
 ghost use Rattle.office.specs.Opening.{Opens, stage-limits};
+ghost use Rattle.office.specs.Answering.{Answers, Replies};
 use parcels::Answer;
 use parcels::Call;
 use parcels::Reason;
 use parcels::Refusal;
+use wire::read_call;
+use wire::write_answer;
 
 // The fewest and the most offices that a post has.
 pub const MIN_OFFICES: u32 = 2;
@@ -46,7 +49,7 @@ impl Office {
     }
 
     // The answer is what the rules say, whatever the office has in its book; and by the rules that book stays as it is.
-    pub fn call(&self, call: Call) -> Answer
+    fn decide(&self, call: Call) -> Answer
         ensures value { λ r. ⌜ ((b : Book) → r ≡ answered (stage-limits (now (self .entry) .offices) (now (self .entry) .parcels)) (now (self .entry) .own) b call) ⌝ }
         ensures kept { λ _. ⌜ ((b : Book) → after (stage-limits (now (self .entry) .offices) (now (self .entry) .parcels)) (now (self .entry) .own) b call ≡ b) ⌝ }
     {
@@ -58,5 +61,27 @@ impl Office {
             reason: Reason::OutOfRange,
             place,
         })
+    }
+
+    // Bytes that are no call are turned away as such, before anything else.
+    fn answer(&self, row: Result<Call, u64>) -> Answer
+        ensures { λ r. ⌜ Answers (stage-limits (now (self .entry) .offices) (now (self .entry) .parcels)) (now (self .entry) .own) row r ⌝ }
+    {
+        match row {
+            Ok(call) => self.decide(call),
+            Err(place) => Answer::Refused(Refusal {
+                reason: Reason::Unreadable,
+                place,
+            }),
+        }
+    }
+
+    // Answers a call that comes as bytes. The answer is written into 64 lent bytes, and how many it took is the
+    // result; where fewer are lent, nothing happens.
+    pub fn call(&self, row: &[u8], out: &mut [u8]) -> Option<usize>
+        ensures { λ r. ⌜ Replies (stage-limits (now (self .entry) .offices) (now (self .entry) .parcels)) (now (self .entry) .own) (now (row .entry)) (now (out .entry)) (now (out .exit)) r ⌝ }
+    {
+        let answer = self.answer(read_call(row));
+        write_answer(answer, out)
     }
 }

@@ -171,6 +171,10 @@ told o b Sums = Two (collected b) (paid-out b)
 abbrev pub answered : Limits → ℕ → Book → Call → Answer
 answered l o b c = unless (turned l o b c) (told o b c) (λ r. Refused (refusal c r))
 
+-- what is answered to bytes that are no call: the place is that of the first byte that doesn't fit
+abbrev pub unreadable : ℕ → Answer
+unreadable place = Refused (record { reason = Unreadable; place = place })
+
 -- the calls whose answer also takes news from other offices
 abbrev pub needs-news : Call → Bool
 needs-news (Accept dest amount) = false

@@ -3,20 +3,20 @@ use mathlib.Core.Path.{_≡_}
 use mathlib.Core.List.{List}
 use Prim.Native.Nat.{ℕ, _-_, _<_}
 use lib.Dec.{leb, eqb}
+use Rattle.std.specs.Of.Vec.{vec-items}
 use Rattle.std.specs.declared.option.Option.{Option}
 use Rattle.std.specs.declared.option.Option.the-variants.{Some, None}
 use Rattle.std.specs.declared.result.Result.{Result}
 use Rattle.std.specs.declared.result.Result.the-variants.{Ok, Err}
 use Rattle.parcels.specs.Book.{pick}
 use Rattle.parcels.specs.Calls.{Limits}
-use Rattle.parcels.specs.declared.Call.{Call}
 use Rattle.parcels.specs.declared.Answer.{Answer}
 use Rattle.lines.specs.declared.Line.{Line}
 use Rattle.lines.specs.declared.Line.the-variants.{Blank, Opening, Call as CallAt, Bytes, Tick, AllTick, Letter, AllLetters, AllLettersLastFirst}
 use Rattle.world.specs.declared.Exchange.{Exchange}
 use Rattle.world.specs.declared.CannotHappen.{CannotHappen}
 use Rattle.world.specs.declared.CannotHappen.the-variants.{NeverSent}
-use Rattle.world.specs.Outcome.{Called, at-office, not-read-yet}
+use Rattle.world.specs.Outcome.{Called, Came, at-office}
 use Rattle.player.specs.declared.trouble.Stop.{Stop}
 use Rattle.player.specs.declared.trouble.Stop.the-variants.{BudgetSpent, TooManyLetters, Bad}
 use Rattle.player.specs.declared.trouble.Trouble.the-variants.{OpenedAgain, Impossible}
@@ -42,21 +42,21 @@ one-thing f n done = pick (eqb n 0) (Err BudgetSpent) (stops f done)
 abbrev pub silent : Unit {0} → Option Answer
 silent _ = None
 
--- a call: as the world has it, where the budget is not spent
-abbrev pub Calls : ℕ → Limits → List Exchange → ℕ → Call → Shown → List Exchange → Type 0
-Calls n l xs o c (Ok (Some a)) ys = (0 < n) × Called l xs o c (Ok a) ys
-Calls n l xs o c (Ok None) ys = ⊥
-Calls n l xs o c (Err (Bad t)) ys = (0 < n) × ((e : CannotHappen) × (t ≡ Impossible e) × Called l xs o c (Err e) ys)
-Calls n l xs o c (Err BudgetSpent) ys = (n ≡ 0) × (ys ≡ xs)
-Calls n l xs o c (Err TooManyLetters) ys = ⊥
+-- what is handed to an office as a call: as the world has it, where the budget is not spent
+abbrev pub Counted : ℕ → List Exchange → (Result Answer CannotHappen → List Exchange → Type 0) → Shown → List Exchange → Type 0
+Counted n xs Happens (Ok (Some a)) ys = (0 < n) × Happens (Ok a) ys
+Counted n xs Happens (Ok None) ys = ⊥
+Counted n xs Happens (Err (Bad t)) ys = (0 < n) × ((e : CannotHappen) × (t ≡ Impossible e) × Happens (Err e) ys)
+Counted n xs Happens (Err BudgetSpent) ys = (n ≡ 0) × (ys ≡ xs)
+Counted n xs Happens (Err TooManyLetters) ys = ⊥
 
 -- each line, with what is left of the budget and the journal after it. No letter is sent in this stage: none can
 -- come, and where all of them do, nothing happens
 abbrev pub Plays : ℕ → Limits → List Exchange → Line → Shown → ℕ → List Exchange → Type 0
 Plays n l xs Blank r m ys = (r ≡ Ok None) × (m ≡ n) × (ys ≡ xs)
 Plays n l xs (Opening offices parcels) r m ys = (r ≡ Err (Bad OpenedAgain)) × (m ≡ n) × (ys ≡ xs)
-Plays n l xs (CallAt o c) r m ys = Calls n l xs o c r ys × (m ≡ n - 1)
-Plays n l xs (Bytes o bytes) r m ys = (r ≡ one-thing Some n (at-office (l .offices) o not-read-yet)) × (m ≡ n - 1) × (ys ≡ xs)
+Plays n l xs (CallAt o c) r m ys = Counted n xs (Called l xs o c) r ys × (m ≡ n - 1)
+Plays n l xs (Bytes o bytes) r m ys = Counted n xs (Came l xs o (vec-items bytes)) r ys × (m ≡ n - 1)
 Plays n l xs (Tick o) r m ys = (r ≡ one-thing silent n (at-office (l .offices) o tt)) × (m ≡ n - 1) × (ys ≡ xs)
 Plays n l xs AllTick r m ys = (r ≡ pick (leb (l .offices) n) (Ok None) (Err BudgetSpent)) × (m ≡ n - l .offices) × (ys ≡ xs)
 Plays n l xs (Letter k) r m ys = (r ≡ one-thing silent n (Err NeverSent)) × (m ≡ n - 1) × (ys ≡ xs)

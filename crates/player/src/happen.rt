@@ -2,14 +2,14 @@
 ghost use mathlib.Core.Path.{_≡_};
 ghost use Prim.Native.Nat.{_-_};
 ghost use lib.Dec.{leb};
-ghost use Rattle.std.specs.declared.option.Option.the-variants.{Some, None};
+ghost use Rattle.std.specs.declared.option.Option.the-variants.{None};
 ghost use Rattle.std.specs.declared.result.Result.the-variants.{Ok, Err};
 ghost use Rattle.parcels.specs.Book.{pick};
 ghost use Rattle.world.specs.declared.CannotHappen.the-variants.{NeverSent};
-ghost use Rattle.world.specs.Outcome.{at-office, not-read-yet};
+ghost use Rattle.world.specs.Outcome.{Called, Came, at-office};
 ghost use Rattle.world.specs.View.{limits-of, journal-of};
 ghost use Rattle.player.specs.Limits.{most-played-letters};
-ghost use Rattle.player.specs.Happen.{spent, one-thing, silent, Calls, Plays};
+ghost use Rattle.player.specs.Happen.{spent, one-thing, silent, Counted, Plays};
 ghost use Rattle.player.specs.declared.trouble.Stop.the-variants.{BudgetSpent};
 use crate::trouble::Stop;
 use crate::trouble::StopFromCannot;
@@ -87,7 +87,7 @@ impl Player {
     }
 
     fn call(&mut self, at: u32, call: Call) -> Result<Option<Answer>, Stop>
-        ensures value { λ r. ⌜ Calls (now (self .entry) .budget) (limits-of (now (self .entry) .world)) (journal-of (now (self .entry) .world)) at call r (journal-of (now (self .exit) .world)) ⌝ }
+        ensures value { λ r. ⌜ Counted (now (self .entry) .budget) (journal-of (now (self .entry) .world)) (Called (limits-of (now (self .entry) .world)) (journal-of (now (self .entry) .world)) at call) r (journal-of (now (self .exit) .world)) ⌝ }
         ensures after { λ _. ⌜ now (self .exit) .budget ≡ now (self .entry) .budget - 1 ⌝ }
         ensures same { λ _. ⌜ limits-of (now (self .exit) .world) ≡ limits-of (now (self .entry) .world) ⌝ }
     {
@@ -97,9 +97,9 @@ impl Player {
     }
 
     fn bytes(&mut self, at: u32, row: &[u8]) -> Result<Option<Answer>, Stop>
-        ensures value { λ r. ⌜ r ≡ one-thing Some (now (self .entry) .budget) (at-office (limits-of (now (self .entry) .world) .offices) at not-read-yet) ⌝ }
+        ensures value { λ r. ⌜ Counted (now (self .entry) .budget) (journal-of (now (self .entry) .world)) (Came (limits-of (now (self .entry) .world)) (journal-of (now (self .entry) .world)) at (now (row .entry))) r (journal-of (now (self .exit) .world)) ⌝ }
         ensures after { λ _. ⌜ now (self .exit) .budget ≡ now (self .entry) .budget - 1 ⌝ }
-        ensures same { λ _. ⌜ now (self .exit) .world ≡ now (self .entry) .world ⌝ }
+        ensures same { λ _. ⌜ limits-of (now (self .exit) .world) ≡ limits-of (now (self .entry) .world) ⌝ }
     {
         self.spend()?;
         let answer = self.world.bytes(at, row)?;

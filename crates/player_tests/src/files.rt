@@ -38,12 +38,47 @@ fn every_call_is_turned_away(rt: LibcRuntime) -> Result<(), Fail> {
                 "refused 2 at 0\nrefused 2 at 0\n",
             ),
             (
-                b"3 offices, 8 parcels\nat 0: bytes 9 0 0 0 0\nat 0: bytes\n",
+                b"3 offices, 8 parcels\nat 2: tick\nall clocks tick\nall letters come\nall letters come, the last first",
+                "",
+            ),
+        ],
+    )
+}
+
+// A call that comes as bytes is answered as that call; a row that is no call, by 1 at its place.
+#[test]
+fn rows_of_bytes(rt: LibcRuntime) -> Result<(), Fail> {
+    check_played(
+        rt.alloc(),
+        BUDGET,
+        &[
+            (
+                b"3 offices, 8 parcels\nat 0: bytes 0 2 0 0 0 50 0 0 0\nat 1: bytes 1 0 0 0 0 1 0 0 0\n",
+                "refused 2 at 0\nrefused 2 at 1\n",
+            ),
+            (
+                b"3 offices, 8 parcels\nat 2: bytes 8\nat 2: bytes 7 255 255 255 255\n",
                 "refused 2 at 0\nrefused 2 at 0\n",
             ),
             (
-                b"3 offices, 8 parcels\nat 2: tick\nall clocks tick\nall letters come\nall letters come, the last first",
-                "",
+                b"3 offices, 8 parcels\nat 0: bytes\nat 0: bytes 9 0 0 0 0\nat 0: bytes 255\n",
+                "refused 1 at 0\nrefused 1 at 0\nrefused 1 at 0\n",
+            ),
+            (
+                b"3 offices, 8 parcels\nat 0: bytes 1\nat 0: bytes 1 0 0 0 0 1 0 0\n",
+                "refused 1 at 1\nrefused 1 at 8\n",
+            ),
+            (
+                b"3 offices, 8 parcels\nat 0: bytes 8 8\nat 0: bytes 2 0 0 0 0 0 0 0\n",
+                "refused 1 at 1\nrefused 1 at 5\n",
+            ),
+            (
+                b"3 offices, 8 parcels\nat 1: bytes 3 0 0 0 0 1 0 0 0 0 0 0 0 1 0 0 0 2 0 0 0 50 0 0 0\n",
+                "line 2: a slip that was never given out",
+            ),
+            (
+                b"3 offices, 8 parcels\nat 1: bytes 3 0 0 0 0 1 0 0 0 0 0 0 0 1 0 0 0 2 0 0 0 50 0 0\n",
+                "refused 1 at 24\n",
             ),
         ],
     )

@@ -9,20 +9,21 @@ use lib.ListN.{length, getD}
 use Rattle.std.specs.declared.option.Option.{Option}
 use Rattle.std.specs.declared.option.Option.the-variants.{Some, None}
 use Rattle.std.specs.declared.result.Result.the-variants.{Ok, Err}
-use Rattle.parcels.specs.Numbers.{fewest-offices, most-offices, most-parcels, four-bytes, letter-bytes, words-a-parcel, words-more}
+use Rattle.parcels.specs.Numbers.{fewest-offices, most-offices, most-parcels, four-bytes, letter-bytes, all-below, words-a-parcel, words-more}
 use Rattle.parcels.specs.Book.{pick, origin, Book, has, own, is-here, was-handed-out, collected, paid-out}
-use Rattle.parcels.specs.Calls.{Stage, Limits, turned, place, answered, needs-news}
+use Rattle.parcels.specs.Calls.{Stage, Limits, turned, place, answered, unreadable, needs-news}
 use Rattle.parcels.specs.declared.Kind.{Kind}
 use Rattle.parcels.specs.declared.Kind.the-variants.{Accepted, SentOn, ComeIn, HandedOut}
 use Rattle.parcels.specs.declared.Step.{Step}
 use Rattle.parcels.specs.declared.Call.{Call}
 use Rattle.parcels.specs.declared.Call.the-variants.{Accept, Send, SlipAgain, TakeIn, HandOut, Pay, WhereIs, Here, Sums}
-use Rattle.parcels.specs.declared.Reason.the-variants.{Unreadable, NothingToPay}
+use Rattle.parcels.specs.declared.Reason.the-variants.{NothingToPay}
 use Rattle.parcels.specs.declared.Refusal.{Refusal}
 use Rattle.parcels.specs.declared.Answer.{Answer}
 use Rattle.parcels.specs.declared.Answer.the-variants.{Refused, Number, Given, At, NothingHeard, Two}
 use Rattle.promises.specs.Truth.{book-of, Move, moves}
-use Rattle.promises.specs.World.{Memory, Letter, Row, Office, Said, World, Lived, In, row-known, row-readable, after-news, Rounds, not-refused, taken}
+use Rattle.wire.specs.Calls.{Row}
+use Rattle.promises.specs.World.{Memory, Letter, Office, Said, World, Lived, In, row-known, row-readable, after-news, Rounds, not-refused, taken}
 
 -- the limits that an office can be opened with, in a stage
 abbrev pub Good-limits : Stage → Limits → Type 0
@@ -135,7 +136,7 @@ Right-answer l xs o Sums a = Right-own l xs o Sums a
 -- bytes that are no call are turned away as such, at the first byte that doesn't fit
 abbrev pub Right-row : Limits → List Said → ℕ → Row → Answer → Type 0
 Right-row l xs o (Ok c) a = Right-answer l xs o c a
-Right-row l xs o (Err k) a = a ≡ Refused (record { reason = Unreadable; place = k })
+Right-row l xs o (Err k) a = a ≡ unreadable k
 
 -- whatever happened before, each answer is right
 abbrev pub Right : Stage → Office → Type 0
@@ -162,11 +163,6 @@ News-comes can f =
     f .Called l (origin p) (v .memory (origin p)) (Ok (Pay p)) m a ls → a ≡ Number (own b p .amount))
 
 -- THIRD: memory and letters stay small, however often the same letter comes.
-
--- numbers that are all below one
-unfoldable pub all-below : ℕ → List ℕ → Bool
-all-below n [] = true
-all-below n (x ∷ xs) = ltb x n && all-below n xs
 
 -- letters that are not too long
 unfoldable pub short : List Letter → Bool

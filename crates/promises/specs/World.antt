@@ -4,11 +4,9 @@ use mathlib.Core.Logic.{_⊎_}
 use mathlib.Core.Bool.{Bool, true, false, not, _&&_}
 use mathlib.Core.List.{List, [], _∷_, _++_}
 use Prim.Native.Nat.{ℕ, zero, suc, _≤_, _<_}
-use lib.Dec.{ltb, eqb}
+use lib.Dec.{eqb}
 use lib.ListN.{length, drop}
-use Rattle.std.specs.declared.result.Result.{Result}
 use Rattle.std.specs.declared.result.Result.the-variants.{Ok, Err}
-use Rattle.parcels.specs.Numbers.{four-bytes}
 use Rattle.parcels.specs.Book.{pick}
 use Rattle.parcels.specs.Calls.{Limits}
 use Rattle.parcels.specs.declared.Slip.{Slip}
@@ -16,6 +14,8 @@ use Rattle.parcels.specs.declared.Call.{Call}
 use Rattle.parcels.specs.declared.Call.the-variants.{Accept, Send, SlipAgain, TakeIn, HandOut, Pay, WhereIs, Here, Sums}
 use Rattle.parcels.specs.declared.Answer.{Answer}
 use Rattle.parcels.specs.declared.Answer.the-variants.{Refused, Number, Given, At, NothingHeard, Two}
+use Rattle.wire.specs.Layout.{readable}
+use Rattle.wire.specs.Calls.{Row}
 use Rattle.promises.specs.Truth.{Taken}
 
 -- an office's memory: words, which stay small by a promise
@@ -26,10 +26,6 @@ Memory = List ℕ
 pub record Letter : Type 0 where
   pub to : ℕ
   pub text : List ℕ
-
--- what a row of bytes at an office is: a call, or no call, with the place of the first byte that doesn't fit
-abbrev pub Row : Type 0
-Row = Result Call ℕ
 
 -- An office, by what the contracts of its functions allow. All offices run the same program, each with its own
 -- number and the same limits, which it keeps beside its memory. Opened: which memory it may begin with. Called,
@@ -98,23 +94,7 @@ abbrev pub row-known : Row → List Said → Type 0
 row-known (Ok c) xs = slip-known c xs
 row-known (Err place) xs = Unit {0}
 
--- a number that a field of a call can carry
-abbrev pub field : ℕ → Bool
-field n = ltb n four-bytes
-
--- a call whose numbers its fields can carry
-abbrev pub readable : Call → Bool
-readable (Accept dest amount) = field dest && field amount
-readable (Send key to) = field key && field to
-readable (SlipAgain key) = field key
-readable (TakeIn s) = ((field (s .key) && field (s .step)) && (field (s .from) && field (s .to))) && (field (s .dest) && field (s .amount))
-readable (HandOut key) = field key
-readable (Pay key) = field key
-readable (WhereIs key) = field key
-readable (Here from) = field from
-readable Sums = true
-
--- the same of a row of bytes: its calls are such ones
+-- a row of bytes is a call only if its fields can carry the call's values
 abbrev pub row-readable : Row → Bool
 row-readable (Ok c) = readable c
 row-readable (Err place) = true

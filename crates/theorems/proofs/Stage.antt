@@ -6,20 +6,18 @@ use Prim.Native.Nat.{ℕ, _<_, _≤_, zero-le}
 use native.Mathlib.Omega.{arith}
 use lib.Dec.{eqb}
 use lib.ListN.{length}
-use Rattle.std.specs.declared.result.Result.the-variants.{Ok, Err}
 use Rattle.parcels.specs.Book.{pick}
 use Rattle.parcels.specs.Calls.{Limits, nothing, refusal}
 use Rattle.parcels.specs.declared.Call.the-variants.{WhereIs}
 use Rattle.parcels.specs.declared.Reason.the-variants.{OutOfRange}
 use Rattle.parcels.specs.declared.Answer.the-variants.{Refused, At}
 use Rattle.promises.specs.World.{Memory, Letter, World, Lived, opened, called, heard, ticked}
-use Rattle.promises.specs.Promise.{Right, Refusal-keeps, Stays-small, Never-back, Old-letters, all-below, short}
+use Rattle.promises.specs.Promise.{Right, Refusal-keeps, Stays-small, Never-back, Old-letters, short}
 use Rattle.world.specs.Ours.{ours}
 use Rattle.world.proofs.Stage as stage
 
 pub answers-right : Right nothing ours
-answers-right l w o (Ok c) m a ls g v there fits known (_, h, _) = stage.right l (w .said) o c a (g .3) h
-answers-right l w o (Err k) m a ls g v there fits known (_, h, _) = absurd h
+answers-right l w o r m a ls g v there fits known (_, h, _) = stage.right-row l (w .said) o r a (g .3) h
 
 pub refusal-keeps : Refusal-keeps nothing ours
 refusal-keeps l w o r m a ls g v there fits known (same, _, none) turned = (same, none)
@@ -50,7 +48,7 @@ none-at-most : (ls : List Letter) (n : ℕ) → ls ≡ [] → length ls ≤ n
 none-at-most ls n e = rw e zero-le
 
 pub stays-small : Stays-small nothing ours
-unfolding all-below short
+unfolding short
 stays-small l w o g v there =
     let m : w .memory o ≡ [] = no-memory l w v o there in (
       rw m zero-le,

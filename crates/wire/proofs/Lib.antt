@@ -1,6 +1,6 @@
 mod Numbers
 mod Values
-mod CallReadings
+pub mod CallReadings
 mod Writing
 mod Fields
 mod AnswerReadings

@@ -13,6 +13,10 @@ use Rattle.parcels.specs.Numbers.{call-number}
 use Rattle.parcels.specs.declared.Call.{Call}
 use Rattle.wire.specs.Layout.{most-call-bytes, readable, call-bytes, Written}
 
+-- what a row of bytes is: a call, or none, with the place of the first byte that doesn't fit
+abbrev pub Row : Type 0
+Row = Result Call ℕ
+
 -- the row is this call
 abbrev pub Is-call : List ℕ → Call → Type 0
 Is-call row c = (readable c ≡ true) × (row ≡ call-bytes c)
@@ -32,8 +36,8 @@ pub record Fits-until (row : List ℕ) (k : ℕ) : Type 0 where
   pub begins : Begins (take k row)
   pub no-longer : (j : ℕ) → k < j → j ≤ length row → Begins (take j row) → ⊥
 
--- what a row of bytes is: a call; or none, and the place of the first byte that doesn't fit
-abbrev pub Reads : List ℕ → Result Call ℕ → Type 0
+-- the bytes are this call; or they are none, and fit until there
+abbrev pub Reads : List ℕ → Row → Type 0
 Reads row (Ok c) = Is-call row c
 Reads row (Err k) = ((c : Call) → Is-call row c → ⊥) × Fits-until row k
 

@@ -1,13 +1,11 @@
 // Calls as bytes.
 ghost use mathlib.Core.Path.{_≡_};
 ghost use mathlib.Core.Bool.{true};
-ghost use Prim.Native.Nat.{ℕ, _<_};
+ghost use Prim.Native.Nat.{_<_};
 ghost use lib.ListN.{length, take};
 ghost use Rattle.parcels.specs.Numbers.{four-bytes, all-below, slip-values};
-ghost use Rattle.std.specs.declared.result.Result.{Result};
-ghost use Rattle.parcels.specs.declared.Call.{Call};
 ghost use Rattle.wire.specs.Layout.{most-call-bytes, in-row, readable, call-bytes};
-ghost use Rattle.wire.specs.Calls.{Begun, Reads, Writes};
+ghost use Rattle.wire.specs.Calls.{Row, Begun, Reads, Writes};
 use crate::number::FIELD_END;
 use crate::number::read_u32;
 use crate::number::write_u32;
@@ -104,7 +102,7 @@ fn padded(row: &[u8]) -> [u8; MAX_CALL_BYTES]
 // some call begins with ends. No other answer is right.
 pub fn read_call(row: &[u8]) -> Result<Call, u64>
     ensures value { λ r. ⌜ Reads (now (row .entry)) r ⌝ }
-    ensures only { λ r. ⌜ ((s : Result Call ℕ) → Reads (now (row .entry)) s → r ≡ s) ⌝ }
+    ensures only { λ r. ⌜ ((s : Row) → Reads (now (row .entry)) s → r ≡ s) ⌝ }
 {
     let Some(call) = first_call(&padded(row)) else {
         return Err(0);

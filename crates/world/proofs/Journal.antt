@@ -5,7 +5,6 @@ use mathlib.Core.List.{List, [], _∷_, _++_, append-assoc, append-nil}
 use Prim.Native.Nat.{ℕ, _+_, _<_}
 use lib.ListN.{length, getD, take, drop}
 use Rattle.std.proofs.shelf.Lists.{take-more, take-append-drop}
-use Rattle.std.specs.declared.result.Result.the-variants.{Ok}
 use Rattle.parcels.specs.declared.Slip.{Slip}
 use Rattle.parcels.specs.declared.Answer.the-variants.{Given}
 use Rattle.promises.specs.World.{Said, given}
@@ -13,7 +12,7 @@ use Rattle.world.specs.declared.Exchange.{Exchange}
 use Rattle.world.specs.Ours.{history}
 
 abbrev pub said-of : Exchange → Said
-said-of x = record { at = x .at; row = Ok (x .call); answer = x .answer }
+said-of x = record { at = x .at; row = x .row; answer = x .answer }
 
 history-append : (xs ys : List Exchange) → history (xs ++ ys) ≡ history ys ++ history xs
 unfolding history

@@ -1,2 +1,3 @@
 mod Journal
+mod Asking
 pub mod Stage

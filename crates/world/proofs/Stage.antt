@@ -19,8 +19,10 @@ use Rattle.parcels.specs.declared.Call.the-variants.{Accept, Send, SlipAgain, T
 use Rattle.parcels.specs.declared.Answer.{Answer}
 use Rattle.parcels.specs.declared.Answer.the-variants.{Refused}
 use Rattle.office.specs.Opening.{stage-limits}
-use Rattle.promises.specs.World.{Memory, Said, World, Lived, called, opened, readable, slip-known, with-memory}
-use Rattle.promises.specs.Promise.{Right-answer, Right-pay, Right-where}
+use Rattle.office.specs.Answering.{Answers}
+use Rattle.wire.specs.Calls.{Row}
+use Rattle.promises.specs.World.{Memory, Said, World, Lived, called, opened, row-readable, row-known, with-memory}
+use Rattle.promises.specs.Promise.{Right-answer, Right-row, Right-pay, Right-where}
 use Rattle.world.specs.declared.Exchange.{Exchange}
 use Rattle.world.specs.declared.CannotHappen.{CannotHappen}
 use Rattle.world.specs.declared.CannotHappen.the-variants.{NoOffice}
@@ -50,6 +52,11 @@ right l xs o (WhereIs key) a g h =
 right l xs o (Here from) a g h = h _
 right l xs o Sums a g h = h _
 
+-- so is what a row of bytes is answered
+pub right-row : (l : Limits) (xs : List Said) (o : ℕ) (r : Row) (a : Answer) → ((k : ℕ) → l .can k ≡ nothing k) → Answers l o r a → Right-row l xs o r a
+right-row l xs o (Ok c) a g h = right l xs o c a g h
+right-row l xs o (Err k) a g h = h
+
 -- no office has memory, and so none after a change of one
 nowhere : (o : ℕ) → with-memory (λ q. []) o [] ≡ (λ q. [])
 nowhere o = fun-ext (λ q. same (eqb q o))
@@ -59,21 +66,21 @@ nowhere o = fun-ext (λ q. same (eqb q o))
     same false = refl
 
 -- one call more can happen
-pub goes-on : (n p o : ℕ) (xs : List Exchange) (c : Call) (a : Answer) → o < n → readable c ≡ true → slip-known c (history xs) → ((b : Book) → a ≡ answered (stage-limits n p) o b c) →
-    ∥ Lived ours (stage-limits n p) (world-of xs) ∥₁ → ∥ Lived ours (stage-limits n p) (world-of (xs ++ (record { at = o; call = c; answer = a } ∷ []))) ∥₁
-goes-on n p o xs c a there fits known h v =
-    let x : Exchange = record { at = o; call = c; answer = a } in
+pub goes-on : (n p o : ℕ) (xs : List Exchange) (r : Row) (a : Answer) → o < n → row-readable r ≡ true → row-known r (history xs) → Answers (stage-limits n p) o r a →
+    ∥ Lived ours (stage-limits n p) (world-of xs) ∥₁ → ∥ Lived ours (stage-limits n p) (world-of (xs ++ (record { at = o; row = r; answer = a } ∷ []))) ∥₁
+goes-on n p o xs r a there fits known h v =
+    let x : Exchange = record { at = o; row = r; answer = a } in
     let same : record { memory = with-memory (λ q. []) o []; sent = []; said = said-of x ∷ history xs } ≡ world-of (xs ++ (x ∷ [])) =
     ap (λ (m : ℕ → Memory). record { memory = m; sent = []; said = said-of x ∷ history xs }) (nowhere o)
     ∙ ap (λ (s : List Said). record { memory = λ q. []; sent = []; said = s }) (sym (history-push xs x)) in
-    ∥∥₁-map v (λ w. subst (λ (u : World). Lived ours (stage-limits n p) u) same (called o (Ok c) [] a [] w there fits known (refl, h, refl)))
+    ∥∥₁-map v (λ w. subst (λ (u : World). Lived ours (stage-limits n p) u) same (called o r [] a [] w there fits known (refl, h, refl)))
 
 -- whether or not there was memory to write a call down
-pub goes-on-if : (ok : Bool) (n p o : ℕ) (xs ys : List Exchange) (c : Call) (a : Answer) → ys ≡ cond ok (xs ++ (record { at = o; call = c; answer = a } ∷ [])) xs → o < n → readable c ≡ true →
-    slip-known c (history xs) → ((b : Book) → a ≡ answered (stage-limits n p) o b c) →
+pub goes-on-if : (ok : Bool) (n p o : ℕ) (xs ys : List Exchange) (r : Row) (a : Answer) → ys ≡ cond ok (xs ++ (record { at = o; row = r; answer = a } ∷ [])) xs → o < n → row-readable r ≡ true →
+    row-known r (history xs) → Answers (stage-limits n p) o r a →
     ∥ Lived ours (stage-limits n p) (world-of xs) ∥₁ → ∥ Lived ours (stage-limits n p) (world-of ys) ∥₁
-goes-on-if true n p o xs ys c a e there fits known h v = rw e (goes-on n p o xs c a there fits known h v)
-goes-on-if false n p o xs ys c a e there fits known h v = rw e v
+goes-on-if true n p o xs ys r a e there fits known h v = rw e (goes-on n p o xs r a there fits known h v)
+goes-on-if false n p o xs ys r a e there fits known h v = rw e v
 
 -- nothing happened yet
 pub begins : (n p : ℕ) (xs : List Exchange) → xs ≡ [] → ∥ Lived ours (stage-limits n p) (world-of xs) ∥₁

@@ -4,11 +4,12 @@ ghost use mathlib.Core.Bool.{true, false};
 ghost use Rattle.std.specs.Orderings.{Decides};
 ghost use Rattle.std.specs.declared.result.Result.the-variants.{Ok, Err};
 ghost use Rattle.parcels.specs.declared.Answer.the-variants.{Given};
-ghost use Rattle.promises.specs.World.{given, slip-known, readable};
+ghost use Prim.Native.Nat.{_<_};
+ghost use Rattle.promises.specs.World.{given, row-known};
 ghost use Rattle.world.specs.declared.CannotHappen.the-variants.{NeverSent};
 ghost use Rattle.world.specs.Ours.{history};
 ghost use Rattle.world.specs.Opening.{Opens};
-ghost use Rattle.world.specs.Outcome.{Called, at-office, not-read-yet};
+ghost use Rattle.world.specs.Outcome.{Asked, Came, Called, at-office};
 ghost use Rattle.world.specs.View.{limits-of, journal-of};
 use crate::CannotHappen;
 use crate::Exchange;
@@ -16,14 +17,14 @@ use crate::World;
 use office::Office;
 use parcels::Answer;
 use parcels::Call;
-use parcels::Reason;
-use parcels::Refusal;
 use parcels::Slip;
 use parcels::SlipPartialEq;
 use std::alloc::Global;
-
-// The first number that a field of a call, four bytes, can't carry.
-const FIELD_END: u64 = 4_294_967_296;
+use wire::ANSWER_BYTES;
+use wire::MAX_CALL_BYTES;
+use wire::read_answer;
+use wire::read_call;
+use wire::write_call;
 
 // Whether an answer gives this slip out.
 fn gives(answer: Answer, slip: Slip) -> bool
@@ -32,16 +33,6 @@ fn gives(answer: Answer, slip: Slip) -> bool
     match answer {
         Answer::Given(given) => given == slip,
         _ => false,
-    }
-}
-
-// Whether the fields of a call, four bytes each, can carry it: all numbers but a slip's step always fit.
-fn is_readable(call: Call) -> bool
-    ensures { λ r. ⌜ r ≡ readable call ⌝ }
-{
-    match call {
-        Call::TakeIn { slip } => slip.step < FIELD_END,
-        _ => true,
     }
 }
 
@@ -80,11 +71,11 @@ impl World {
     }
 
     // Whether the slip that a call comes with, if it is one with a slip, was given out.
-    fn slip_is_known(&self, call: Call) -> bool
-        ensures { λ r. ⌜ Decides r (slip-known call (history (journal-of (now (self .entry))))) ⌝ }
+    fn slip_is_known(&self, row: Result<Call, u64>) -> bool
+        ensures { λ r. ⌜ Decides r (row-known row (history (journal-of (now (self .entry))))) ⌝ }
     {
-        match call {
-            Call::TakeIn { slip } => self.was_given(slip),
+        match row {
+            Ok(Call::TakeIn { slip }) => self.was_given(slip),
             _ => true,
         }
     }
@@ -113,18 +104,6 @@ impl World {
         Ok(())
     }
 
-    // A row of bytes comes to an office as a call. In this stage none is read: each is turned away as what can't be
-    // done yet, and is no call that the office answered.
-    pub fn bytes(&self, at: u32, _row: &[u8]) -> Result<Answer, CannotHappen>
-        ensures { λ r. ⌜ r ≡ at-office (limits-of (now (self .entry)) .offices) at not-read-yet ⌝ }
-    {
-        self.at_office(at)?;
-        Ok(Answer::Refused(Refusal {
-            reason: Reason::OutOfRange,
-            place: 0,
-        }))
-    }
-
     // An office's clock ticks: nothing comes of it, in this stage.
     pub fn tick(&self, clock: u32) -> Result<(), CannotHappen>
         ensures { λ r. ⌜ r ≡ at-office (limits-of (now (self .entry)) .offices) clock tt ⌝ }
@@ -139,22 +118,47 @@ impl World {
         Err(CannotHappen::NeverSent)
     }
 
-    // A clerk makes a call at an office.
+    // What an office that is there answers to a row of bytes, read from the bytes that it writes.
+    fn ask(&self, at: u32, row: &[u8]) -> Answer
+        requires { ⌜ at < limits-of (now self) .offices ⌝ }
+        ensures { λ a. ⌜ Asked (limits-of (now (self .entry))) at (now (row .entry)) a ⌝ }
+    {
+        let mut out = [0; ANSWER_BYTES];
+        let len = self.offices[at as usize].call(row, &mut out).unwrap();
+        read_answer(&out[0..len]).unwrap()
+    }
+
+    // A row of bytes comes to an office as a call.
+    pub fn bytes(&mut self, at: u32, row: &[u8]) -> Result<Answer, CannotHappen>
+        ensures value { λ r. ⌜ Came (limits-of (now (self .entry))) (journal-of (now (self .entry))) at (now (row .entry)) r (journal-of (now (self .exit))) ⌝ }
+        ensures same { λ _. ⌜ limits-of (now (self .exit)) ≡ limits-of (now (self .entry)) ⌝ }
+    {
+        let read = read_call(row);
+        self.at_office(at)?;
+        if !self.slip_is_known(read) {
+            return Err(CannotHappen::NeverGiven);
+        }
+        let answer = self.ask(at, row);
+        let Ok(()) = self.journal.push(Exchange {
+            at,
+            row: read,
+            answer,
+        })
+        else {
+            return Err(CannotHappen::NoMemory);
+        };
+        Ok(answer)
+    }
+
+    // A clerk makes a call at an office: it goes there as bytes.
     pub fn call(&mut self, at: u32, call: Call) -> Result<Answer, CannotHappen>
         ensures value { λ r. ⌜ Called (limits-of (now (self .entry))) (journal-of (now (self .entry))) at call r (journal-of (now (self .exit))) ⌝ }
         ensures same { λ _. ⌜ limits-of (now (self .exit)) ≡ limits-of (now (self .entry)) ⌝ }
     {
-        self.at_office(at)?;
-        if !is_readable(call) {
+        let mut row = [0; MAX_CALL_BYTES];
+        let Some(len) = write_call(call, &mut row) else {
             return Err(CannotHappen::NoSuchCall);
-        }
-        if !self.slip_is_known(call) {
-            return Err(CannotHappen::NeverGiven);
-        }
-        let answer = self.offices[at as usize].call(call);
-        let Ok(()) = self.journal.push(Exchange { at, call, answer }) else {
-            return Err(CannotHappen::NoMemory);
         };
-        Ok(answer)
+        self.bytes(at, &row[0..len])
     }
 }

@@ -14,16 +14,16 @@ use parcels::Call;
 
 mod happen;
 
-// A call at an office, and what it answered.
+// What was handed to an office as a call, by what its bytes are, and what it answered.
 #[derive(Clone, Copy)]
 pub struct Exchange {
     pub at: u32,
-    pub call: Call,
+    pub row: Result<Call, u64>,
     pub answer: Answer,
 }
 
-// What can't happen in a world: limits that no office opens with, an office that is not there, a call whose
-// numbers no row of bytes carries, a slip that was never given out, a letter that was never sent. And where
+// What can't happen in a world: limits that no office opens with, an office that is not there, a call that no
+// row of bytes is, a slip that was never given out, a letter that was never sent. And where
 // this machine's memory is wanting.
 #[derive(Clone, Copy)]
 pub enum CannotHappen {

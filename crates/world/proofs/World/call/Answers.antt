@@ -1,33 +1,23 @@
-use mathlib.Core.Path.{refl, sym, _∙_}
-use Rattle.std.specs.Results.{isOk}
-use Rattle.std.specs.Of.Vec.{vec-len, vec-items}
-use Rattle.office.specs.Opening.{stage-limits}
-use Rattle.world.proofs.Stage.{right, goes-on-if, is-there}
+use mathlib.Core.Logic.{inr}
+use mathlib.Core.List.{List}
+use Prim.Native.Nat.{ℕ}
+use lib.ListN.{replicate, take}
+use Rattle.wire.specs.Layout.{call-bytes}
+use Rattle.world.specs.View.{limits-of, journal-of}
+use Rattle.world.proofs.Asking.{within, front, handed-as}
 use Rattle.world.proofs.World.call.Needs as need
 
-pub ghost-self : need.ghost-self
-ghost-self c = (
-  c .args .self .now .good,
-  (
-    c .args .self .now .numbered,
-    (
-      goes-on-if (isOk (c .push .result)) (vec-len (c .args .self .now .offices)) (c .args .self .now .parcels) (c .args .at) (vec-items (c .args .self .now .journal)) (vec-items (c .push .last .self))
-          (c .args .call) (c .call-answer .result) (c .push .ensures .items) (is-there (vec-len (c .args .self .now .offices)) (c .args .at) _ (c .in-Continue-at-office .ensures tt)) (sym (c .is-readable .ensures) ∙ c .if-not-is-readable .left)
-          (c .slip-is-known .ensures .0 (c .if-not-slip-is-known .left)) (c .call-answer .ensures .value) (c .args .self .now .lived),
-      tt,
-    ),
-  ),
-)
+pub part-bytes-end : need.part-bytes-end
+part-bytes-end c = within (call-bytes (c .args .call)) (replicate 25 0) (c .write-call .last .out) (c .in-Some .len) (c .in-Some .ensures tt .2)
 
 pub returns : need.returns
 returns c =
     record {
-      value = (
-        is-there (vec-len (c .args .self .now .offices)) (c .args .at) _ (c .in-Continue-at-office .ensures tt),
-        sym (c .is-readable .ensures) ∙ c .if-not-is-readable .left,
-        c .slip-is-known .ensures .0 (c .if-not-slip-is-known .left),
-        right (stage-limits (vec-len (c .args .self .now .offices)) (c .args .self .now .parcels)) _ (c .args .at) (c .args .call) (c .call-answer .result) (λ k. refl) (c .call-answer .ensures .value),
-        c .in-Ok .ensures tt .items,
-      );
-      same = refl;
+      value =
+          inr (
+            c .in-Some .ensures tt .0,
+            handed-as (limits-of (c .args .self .now)) (journal-of (c .args .self .now)) (c .args .at) (c .args .call) _ (c .bytes .result) (journal-of (c .bytes .last .self)) (c .in-Some .ensures tt .0)
+                (front (call-bytes (c .args .call)) (replicate 25 0) (c .write-call .last .out) (c .in-Some .len) (c .in-Some .ensures tt .2)) (c .bytes .ensures .value),
+          );
+      same = c .bytes .ensures .same;
     }
