@@ -1,6 +1,6 @@
 -- What a row of bytes is read as: the bytes of a call tell which it is, and no row has two readings.
-use mathlib.Core.Path.{_≡_, refl, sym, ap, subst, _∙_}
-use mathlib.Core.Logic.{_⊎_, inl, inr}
+use mathlib.Core.Path.{_≡_, refl, sym, ap, _∙_}
+use mathlib.Core.Logic.{inl, inr}
 use mathlib.Core.Bool.{true}
 use mathlib.Core.List.{List, [], _∷_, _++_}
 use Prim.Native.Nat.{ℕ, suc, _+_, _*_, _<_, _≤_, min}
@@ -14,8 +14,8 @@ use Rattle.parcels.specs.Numbers.{call-number, call-values}
 use Rattle.parcels.specs.declared.Slip.{Slip}
 use Rattle.parcels.specs.declared.Call.{Call}
 use Rattle.parcels.specs.declared.Call.the-variants.{Accept, Send, SlipAgain, TakeIn, HandOut, Pay, WhereIs, Here, Sums}
-use Rattle.wire.specs.Layout.{most-call-bytes, in-row, readable, call-bytes}
-use Rattle.wire.specs.Calls.{Is-call, Begins, Fits-until, Reads}
+use Rattle.wire.specs.Layout.{most-call-bytes, readable, call-bytes}
+use Rattle.wire.specs.Calls.{Is-call, Fits-until, Reads}
 use Rattle.wire.proofs.Values.{length-in-row, same-values}
 
 -- how many values the call with this number has

@@ -15,7 +15,8 @@ use Rattle.parcels.specs.declared.Answer.{Answer}
 use Rattle.parcels.specs.declared.Answer.the-variants.{Refused, Number, Given, At, NothingHeard, Two}
 use Rattle.wire.specs.Layout.{lent-for-answer, in-row, answer-bytes, Written}
 
--- values that an answer can have: keys, offices and amounts below four bytes, all others below eight
+-- values that the fields of a refusal, a slip, a step and an answer can have: four bytes for keys, offices and
+-- amounts, and eight for all others
 abbrev pub refusal-fits : Refusal → Bool
 refusal-fits r = ltb (r .place) eight-bytes
 
@@ -42,6 +43,13 @@ abbrev pub Reads-answer : List ℕ → Option Answer → Type 0
 Reads-answer row (Some a) = Is-answer row a
 Reads-answer row None = (a : Answer) → Is-answer row a → ⊥
 
+-- an answer is written where the bytes lent are as many as they should be; else they stay as they were
+abbrev pub Writes-answer : Answer → List ℕ → List ℕ → Option ℕ → Type 0
+Writes-answer a before after (Some n) = (fits a ≡ true) × (lent-for-answer ≤ length before) × Written (answer-bytes a) before after n
+Writes-answer a before after None = (length before < lent-for-answer) × (after ≡ before)
+
+-- FOR THE READER'S OWN FUNCTIONS
+
 -- the values, so many of eight bytes each, that a part of a row holds; none, where the part is not as long as they are
 abbrev pub Holds : ℕ → List ℕ → Option (List ℕ) → Type 0
 Holds n part (Some ns) = (length ns ≡ n) × (all-below eight-bytes ns ≡ true) × (part ≡ in-row 8 ns)
@@ -56,8 +64,3 @@ Reads-part {X} can values part None = (x : X) → can x ≡ true → part ≡ in
 abbrev pub Behind : ℕ → List ℕ → Option Answer → Type 0
 Behind k part (Some a) = (answer-number a ≡ k) × (fits a ≡ true) × (part ≡ in-row 8 (answer-values a))
 Behind k part None = (a : Answer) → answer-number a ≡ k → fits a ≡ true → part ≡ in-row 8 (answer-values a) → ⊥
-
--- an answer is written where the bytes lent are as many as they should be; else they stay as they were
-abbrev pub Writes-answer : Answer → List ℕ → List ℕ → Option ℕ → Type 0
-Writes-answer a before after (Some n) = (fits a ≡ true) × (lent-for-answer ≤ length before) × Written (answer-bytes a) before after n
-Writes-answer a before after None = (length before < lent-for-answer) × (after ≡ before)

@@ -25,11 +25,6 @@ Is-call row c = (readable c ≡ true) × (row ≡ call-bytes c)
 abbrev pub Begins : List ℕ → Type 0
 Begins front = (c : Call) × (readable c ≡ true) × ((rest : List ℕ) × (call-bytes c ≡ front ++ rest))
 
--- the call that bytes begin with; none, where their first byte is no call's
-abbrev pub Begun : List ℕ → Option Call → Type 0
-Begun bytes (Some c) = (readable c ≡ true) × ((rest : List ℕ) × (bytes ≡ call-bytes c ++ rest))
-Begun bytes None = (c : Call) → call-number c ≡ getD bytes 0 0 → ⊥
-
 -- the longest front of a row that some call begins with ends here
 pub record Fits-until (row : List ℕ) (k : ℕ) : Type 0 where
   pub within : k ≤ length row
@@ -46,3 +41,10 @@ Reads row (Err k) = ((c : Call) → Is-call row c → ⊥) × Fits-until row k
 abbrev pub Writes : Call → List ℕ → List ℕ → Option ℕ → Type 0
 Writes c before after (Some n) = (readable c ≡ true) × (most-call-bytes ≤ length before) × Written (call-bytes c) before after n
 Writes c before after None = ((readable c && leb most-call-bytes (length before)) ≡ false) × (after ≡ before)
+
+-- FOR THE READER'S OWN FUNCTIONS
+
+-- the call that bytes begin with; none, where their first byte is no call's
+abbrev pub Begun : List ℕ → Option Call → Type 0
+Begun bytes (Some c) = (readable c ≡ true) × ((rest : List ℕ) × (bytes ≡ call-bytes c ++ rest))
+Begun bytes None = (c : Call) → call-number c ≡ getD bytes 0 0 → ⊥

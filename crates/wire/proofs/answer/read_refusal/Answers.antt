@@ -6,18 +6,17 @@ use lib.ListN.{getD}
 use Rattle.std.proofs.shelf.Lists.{drop-all}
 use Rattle.parcels.specs.Numbers.{eight-bytes, refusal-values}
 use Rattle.wire.specs.Layout.{in-row}
-use Rattle.wire.proofs.Values.{only-values, not-as-long, below-at, next-value}
-use Rattle.wire.proofs.Fields.{refusal-small}
+use Rattle.wire.specs.Answers.{refusal-fits}
+use Rattle.wire.proofs.Values.{below-at, next-value}
+use Rattle.wire.proofs.Fields.{refusal-small, wrong-length, held-values}
 use Rattle.wire.proofs.answer.read_refusal.Needs as need
 
 pub returns-in-rest : need.returns-in-rest
-returns-in-rest c r fits e = not-as-long (c .args .part .now) (refusal-values r) 16 (c .in-rest .ensures tt) refl e
+returns-in-rest c = wrong-length refusal-fits refusal-values refusal-small 2 (λ r. refl) (c .args .part .now) (c .in-rest .ensures tt)
 
 pub returns-in-rest-from-number : need.returns-in-rest-from-number
 returns-in-rest-from-number c r fits e =
-    let ns : List ℕ = c .in-Some .numbers in
-    let (count, small, held) = c .in-Some .ensures tt in
-    let same : ns ≡ refusal-values r = only-values (c .args .part .now) ns (refusal-values r) held small (refusal-small r fits) count e in
+    let same : c .in-Some .numbers ≡ refusal-values r = held-values refusal-fits refusal-values refusal-small 2 (λ x. refl) (c .args .part .now) (c .in-Some .numbers) (c .in-Some .ensures tt) r fits e in
     c .in-rest-from-number .ensures tt (r .reason) (sym (ap (λ vs. getD vs 0 0) same))
 
 pub returns : need.returns

@@ -1,22 +1,22 @@
 use mathlib.Core.Path.{_≡_, refl, sym, ap, subst, _∙_}
 use mathlib.Core.Bool.{true}
 use mathlib.Core.List.{List, [], _∷_}
-use Prim.Native.Nat.{ℕ, _≤_, _<_, max}
+use Prim.Native.Nat.{ℕ, _<_, max}
 use native.Mathlib.Omega.{arith}
 use lib.Dec.{ltb}
-use lib.ListN.{getD, length}
+use lib.ListN.{getD}
 use Rattle.std.proofs.shelf.Lists.{drop-all}
 use Rattle.std.proofs.shelf.Ways.{tells}
 use Rattle.parcels.specs.Numbers.{four-bytes, eight-bytes, slip-values}
 use Rattle.parcels.specs.declared.Slip.{Slip}
 use Rattle.wire.specs.Layout.{in-row}
 use Rattle.wire.specs.Answers.{slip-fits}
-use Rattle.wire.proofs.Values.{only-values, not-as-long, below-at, next-value}
-use Rattle.wire.proofs.Fields.{slip-small}
+use Rattle.wire.proofs.Values.{below-at, next-value}
+use Rattle.wire.proofs.Fields.{slip-small, wrong-length, held-values}
 use Rattle.wire.proofs.answer.read_slip.Needs as need
 
 pub returns-in-rest : need.returns-in-rest
-returns-in-rest c s fits e = not-as-long (c .args .part .now) (slip-values s) 48 (c .in-rest .ensures tt) refl e
+returns-in-rest c = wrong-length slip-fits slip-values slip-small 6 (λ s. refl) (c .args .part .now) (c .in-rest .ensures tt)
 
 -- the largest of the numbers that have four bytes
 largest : List ℕ → ℕ
@@ -30,8 +30,7 @@ pub returns-then-max-ge-FIELD-END : need.returns-then-max-ge-FIELD-END
 unfolding largest
 returns-then-max-ge-FIELD-END c s fits e =
     let ns : List ℕ = c .in-Some .numbers in
-    let (count, small, held) = c .in-Some .ensures tt in
-    let same : ns ≡ slip-values s = only-values (c .args .part .now) ns (slip-values s) held small (slip-small s fits) count e in
+    let same : ns ≡ slip-values s = held-values slip-fits slip-values slip-small 6 (λ x. refl) (c .args .part .now) ns (c .in-Some .ensures tt) s fits e in
     let low : largest ns < four-bytes = subst (λ (vs : List ℕ). largest vs < four-bytes) (sym same) (largest-fits s fits) in
     omega arith
 

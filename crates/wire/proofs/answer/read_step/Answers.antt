@@ -1,4 +1,4 @@
-use mathlib.Core.Path.{_≡_, refl, sym, ap, subst, _∙_}
+use mathlib.Core.Path.{_≡_, refl, sym, ap, _∙_}
 use mathlib.Core.Bool.{true}
 use mathlib.Core.List.{List, [], _∷_}
 use Prim.Native.Nat.{ℕ, _<_}
@@ -12,18 +12,16 @@ use Rattle.parcels.specs.declared.Kind.{Kind}
 use Rattle.parcels.specs.declared.Step.{Step}
 use Rattle.wire.specs.Layout.{in-row}
 use Rattle.wire.specs.Answers.{step-fits}
-use Rattle.wire.proofs.Values.{only-values, not-as-long, below-at, next-value}
-use Rattle.wire.proofs.Fields.{step-small}
+use Rattle.wire.proofs.Values.{below-at, next-value}
+use Rattle.wire.proofs.Fields.{step-small, wrong-length, held-values}
 use Rattle.wire.proofs.answer.read_step.Needs as need
 
 pub returns-in-rest : need.returns-in-rest
-returns-in-rest c s fits e = not-as-long (c .args .part .now) (step-values s) 24 (c .in-rest .ensures tt) refl e
+returns-in-rest c = wrong-length step-fits step-values step-small 3 (λ s. refl) (c .args .part .now) (c .in-rest .ensures tt)
 
 pub returns-in-rest-from-number : need.returns-in-rest-from-number
 returns-in-rest-from-number c s fits e =
-    let ns : List ℕ = c .in-Some .numbers in
-    let (count, small, held) = c .in-Some .ensures tt in
-    let same : ns ≡ step-values s = only-values (c .args .part .now) ns (step-values s) held small (step-small s fits) count e in
+    let same : c .in-Some .numbers ≡ step-values s = held-values step-fits step-values step-small 3 (λ x. refl) (c .args .part .now) (c .in-Some .numbers) (c .in-Some .ensures tt) s fits e in
     c .in-rest-from-number .ensures tt (s .kind) (sym (ap (λ vs. getD vs 1 0) same))
 
 office-fits : (s : Step) → step-fits s ≡ true → s .office < four-bytes
@@ -31,10 +29,8 @@ office-fits s fits = grind (arith, tells)
 
 pub returns-then-office-ge-FIELD-END : need.returns-then-office-ge-FIELD-END
 returns-then-office-ge-FIELD-END c s fits e =
-    let ns : List ℕ = c .in-Some .numbers in
-    let (count, small, held) = c .in-Some .ensures tt in
-    let same : ns ≡ step-values s = only-values (c .args .part .now) ns (step-values s) held small (step-small s fits) count e in
-    let office : getD ns 2 0 ≡ s .office = ap (λ vs. getD vs 2 0) same in
+    let same : c .in-Some .numbers ≡ step-values s = held-values step-fits step-values step-small 3 (λ x. refl) (c .args .part .now) (c .in-Some .numbers) (c .in-Some .ensures tt) s fits e in
+    let office : getD (c .in-Some .numbers) 2 0 ≡ s .office = ap (λ vs. getD vs 2 0) same in
     omega (arith, office-fits s fits)
 
 fits-by : (n o : ℕ) (k : Kind) → ltb n eight-bytes ≡ true → o < four-bytes → step-fits (record { number = n; kind = k; office = o }) ≡ true

@@ -1,6 +1,4 @@
 use mathlib.Core.Path.{_≡_, ap, subst}
-use Prim.Native.Nat.{ℕ}
-use native.Mathlib.Omega.{arith}
 use lib.ListN.{replicate}
 use Rattle.std.specs.Options.{isSome}
 use Rattle.std.specs.Of.Vec.{vec-len}

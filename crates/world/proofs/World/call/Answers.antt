@@ -1,7 +1,5 @@
 use mathlib.Core.Logic.{inr}
-use mathlib.Core.List.{List}
-use Prim.Native.Nat.{ℕ}
-use lib.ListN.{replicate, take}
+use lib.ListN.{replicate}
 use Rattle.wire.specs.Layout.{call-bytes}
 use Rattle.world.specs.View.{limits-of, journal-of}
 use Rattle.world.proofs.Asking.{within, front, handed-as}
