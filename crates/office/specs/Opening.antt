@@ -27,3 +27,7 @@ Opens offices own parcels (Err e) = (in-range offices own parcels ≡ false) × 
 -- the stage of the office: nothing can be done yet
 abbrev pub stage-limits : ℕ → ℕ → Limits
 stage-limits offices parcels = record { can = nothing; offices = offices; parcels = parcels }
+
+-- the same of an office
+abbrev pub office-limits : Office → Limits
+office-limits x = stage-limits (x .offices) (x .parcels)

@@ -1,8 +1,8 @@
 // One office: opened with limits, it answers calls that come as bytes. In this stage it can do none of them.
 ghost use mathlib.Core.Path.{_≡_};
 ghost use Rattle.parcels.specs.Book.{Book};
-ghost use Rattle.parcels.specs.Calls.{answered, after};
-ghost use Rattle.office.specs.Opening.{Opens, stage-limits};
+ghost use Rattle.parcels.specs.Calls.{answered};
+ghost use Rattle.office.specs.Opening.{Opens, office-limits};
 ghost use Rattle.office.specs.Answering.{Answers, Replies};
 use parcels::Answer;
 use parcels::Call;
@@ -48,10 +48,9 @@ impl Office {
         })
     }
 
-    // The answer is what the rules say, whatever the office has in its book; and by the rules that book stays as it is.
+    // The answer is what the rules say, whatever the office has in its book.
     fn decide(&self, call: Call) -> Answer
-        ensures value { λ r. ⌜ ((b : Book) → r ≡ answered (stage-limits (now (self .entry) .offices) (now (self .entry) .parcels)) (now (self .entry) .own) b call) ⌝ }
-        ensures kept { λ _. ⌜ ((b : Book) → after (stage-limits (now (self .entry) .offices) (now (self .entry) .parcels)) (now (self .entry) .own) b call ≡ b) ⌝ }
+        ensures { λ r. ⌜ ((b : Book) → r ≡ answered (office-limits (now (self .entry))) (now (self .entry) .own) b call) ⌝ }
     {
         let place = match call {
             Call::Send { .. } => 1,
@@ -64,10 +63,10 @@ impl Office {
     }
 
     // Bytes that are no call are turned away as such, before anything else.
-    fn answer(&self, row: Result<Call, u64>) -> Answer
-        ensures { λ r. ⌜ Answers (stage-limits (now (self .entry) .offices) (now (self .entry) .parcels)) (now (self .entry) .own) row r ⌝ }
+    fn answer(&self, reading: Result<Call, u64>) -> Answer
+        ensures { λ r. ⌜ Answers (office-limits (now (self .entry))) (now (self .entry) .own) reading r ⌝ }
     {
-        match row {
+        match reading {
             Ok(call) => self.decide(call),
             Err(place) => Answer::Refused(Refusal {
                 reason: Reason::Unreadable,
@@ -79,7 +78,7 @@ impl Office {
     // Answers a call that comes as bytes. The answer is written into 64 lent bytes, and how many it took is the
     // result; where fewer are lent, nothing happens.
     pub fn call(&self, row: &[u8], out: &mut [u8]) -> Option<usize>
-        ensures { λ r. ⌜ Replies (stage-limits (now (self .entry) .offices) (now (self .entry) .parcels)) (now (self .entry) .own) (now (row .entry)) (now (out .entry)) (now (out .exit)) r ⌝ }
+        ensures { λ r. ⌜ Replies (office-limits (now (self .entry))) (now (self .entry) .own) (now (row .entry)) (now (out .entry)) (now (out .exit)) r ⌝ }
     {
         let answer = self.answer(read_call(row));
         write_answer(answer, out)

@@ -1,4 +1,5 @@
--- The numbers by which calls, kinds of step, reasons and answers are known outside, and the limits.
+-- The numbers by which calls, kinds of step, reasons and answers are known outside, the values that calls and
+-- answers carry, and the limits.
 use mathlib.Core.Path.{_≡_}
 use mathlib.Core.Bool.{Bool, true, _&&_}
 use mathlib.Core.List.{List, [], _∷_}
@@ -46,7 +47,7 @@ four-bytes = 4294967296
 abbrev pub eight-bytes : ℕ
 eight-bytes = 18446744073709551616
 
--- numbers that are all below one
+-- whether all numbers of a list are below a bound
 abbrev pub all-below : ℕ → List ℕ → Bool
 all-below n [] = true
 all-below n (x ∷ xs) = ltb x n && all-below n xs

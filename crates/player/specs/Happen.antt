@@ -29,18 +29,14 @@ Shown = Result (Option Answer) Stop
 abbrev pub spent : ℕ → Result (Unit {0}) Stop
 spent n = pick (eqb n 0) (Err BudgetSpent) (Ok tt)
 
--- what comes of one thing by what the world says of it
-abbrev pub stops : {X : Type 0} → (X → Option Answer) → Result X CannotHappen → Shown
-stops f (Ok x) = Ok (f x)
-stops f (Err e) = Err (Bad (Impossible e))
+-- what a tick or a letter shows, by what the world says of it
+abbrev pub stops : Result (Unit {0}) CannotHappen → Shown
+stops (Ok _) = Ok None
+stops (Err e) = Err (Bad (Impossible e))
 
 -- the same, where the budget is not spent
-abbrev pub one-thing : {X : Type 0} → (X → Option Answer) → ℕ → Result X CannotHappen → Shown
-one-thing f n done = pick (eqb n 0) (Err BudgetSpent) (stops f done)
-
--- shows nothing
-abbrev pub silent : Unit {0} → Option Answer
-silent _ = None
+abbrev pub one-thing : ℕ → Result (Unit {0}) CannotHappen → Shown
+one-thing n done = pick (eqb n 0) (Err BudgetSpent) (stops done)
 
 -- what is handed to an office as a call: as the world has it, where the budget is not spent
 abbrev pub Counted : ℕ → List Exchange → (Result Answer CannotHappen → List Exchange → Type 0) → Shown → List Exchange → Type 0
@@ -57,8 +53,8 @@ Plays n l xs Blank r m ys = (r ≡ Ok None) × (m ≡ n) × (ys ≡ xs)
 Plays n l xs (Opening offices parcels) r m ys = (r ≡ Err (Bad OpenedAgain)) × (m ≡ n) × (ys ≡ xs)
 Plays n l xs (CallAt o c) r m ys = Counted n xs (Called l xs o c) r ys × (m ≡ n - 1)
 Plays n l xs (Bytes o bytes) r m ys = Counted n xs (Came l xs o (vec-items bytes)) r ys × (m ≡ n - 1)
-Plays n l xs (Tick o) r m ys = (r ≡ one-thing silent n (at-office (l .offices) o tt)) × (m ≡ n - 1) × (ys ≡ xs)
+Plays n l xs (Tick o) r m ys = (r ≡ one-thing n (at-office (l .offices) o)) × (m ≡ n - 1) × (ys ≡ xs)
 Plays n l xs AllTick r m ys = (r ≡ pick (leb (l .offices) n) (Ok None) (Err BudgetSpent)) × (m ≡ n - l .offices) × (ys ≡ xs)
-Plays n l xs (Letter k) r m ys = (r ≡ one-thing silent n (Err NeverSent)) × (m ≡ n - 1) × (ys ≡ xs)
+Plays n l xs (Letter k) r m ys = (r ≡ one-thing n (Err NeverSent)) × (m ≡ n - 1) × (ys ≡ xs)
 Plays n l xs AllLetters r m ys = (r ≡ Ok None) × (m ≡ n) × (ys ≡ xs)
 Plays n l xs AllLettersLastFirst r m ys = (r ≡ Ok None) × (m ≡ n) × (ys ≡ xs)

@@ -9,7 +9,7 @@ ghost use Rattle.world.specs.declared.CannotHappen.the-variants.{NeverSent};
 ghost use Rattle.world.specs.Outcome.{Called, Came, at-office};
 ghost use Rattle.world.specs.View.{limits-of, journal-of};
 ghost use Rattle.player.specs.Limits.{most-played-letters};
-ghost use Rattle.player.specs.Happen.{spent, one-thing, silent, Counted, Plays};
+ghost use Rattle.player.specs.Happen.{spent, one-thing, Counted, Plays};
 ghost use Rattle.player.specs.declared.trouble.Stop.the-variants.{BudgetSpent};
 use crate::trouble::Stop;
 use crate::trouble::StopFromCannot;
@@ -67,7 +67,7 @@ impl Player {
     }
 
     fn tick(&mut self, at: u32) -> Result<Option<Answer>, Stop>
-        ensures value { λ r. ⌜ r ≡ one-thing silent (now (self .entry) .budget) (at-office (limits-of (now (self .entry) .world) .offices) at tt) ⌝ }
+        ensures value { λ r. ⌜ r ≡ one-thing (now (self .entry) .budget) (at-office (limits-of (now (self .entry) .world) .offices) at) ⌝ }
         ensures after { λ _. ⌜ now (self .exit) .budget ≡ now (self .entry) .budget - 1 ⌝ }
         ensures same { λ _. ⌜ now (self .exit) .world ≡ now (self .entry) .world ⌝ }
     {
@@ -77,7 +77,7 @@ impl Player {
     }
 
     fn hear(&mut self, letter: u32) -> Result<Option<Answer>, Stop>
-        ensures value { λ r. ⌜ r ≡ one-thing silent (now (self .entry) .budget) (Err NeverSent) ⌝ }
+        ensures value { λ r. ⌜ r ≡ one-thing (now (self .entry) .budget) (Err NeverSent) ⌝ }
         ensures after { λ _. ⌜ now (self .exit) .budget ≡ now (self .entry) .budget - 1 ⌝ }
         ensures same { λ _. ⌜ now (self .exit) .world ≡ now (self .entry) .world ⌝ }
     {

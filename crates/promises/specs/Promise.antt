@@ -22,7 +22,7 @@ use Rattle.parcels.specs.declared.Refusal.{Refusal}
 use Rattle.parcels.specs.declared.Answer.{Answer}
 use Rattle.parcels.specs.declared.Answer.the-variants.{Refused, Number, Given, At, NothingHeard, Two}
 use Rattle.promises.specs.Truth.{book-of, Move, moves}
-use Rattle.wire.specs.Calls.{Row}
+use Rattle.wire.specs.Calls.{Reading}
 use Rattle.promises.specs.World.{Memory, Letter, Office, Said, World, Lived, In, row-known, row-readable, after-news, Rounds, not-refused, taken}
 
 -- the limits that an office can be opened with, in a stage
@@ -63,7 +63,7 @@ asks-for (Here from) p = false
 asks-for Sums p = false
 
 -- the same of a row of bytes
-abbrev pub row-asks-for : Row → ℕ → Bool
+abbrev pub row-asks-for : Reading → ℕ → Bool
 row-asks-for (Ok c) p = asks-for c p
 row-asks-for (Err k) p = false
 
@@ -72,7 +72,7 @@ unfoldable pub told-so-far : List Said → ℕ → ℕ → ℕ
 told-so-far [] o p = 0
 told-so-far (x ∷ xs) o p =
     let r : ℕ = told-so-far xs o p in
-    pick ((eqb (x .at) o && row-asks-for (x .row) p) && ltb r (step-told (x .answer))) (step-told (x .answer)) r
+    pick ((eqb (x .at) o && row-asks-for (x .reading) p) && ltb r (step-told (x .answer))) (step-told (x .answer)) r
 
 -- what an office knows at least, by its own calls: one more than its last step with the parcel, or 0 for none
 abbrev pub own-step : Book → ℕ → ℕ
@@ -134,20 +134,20 @@ Right-answer l xs o (Here from) a = Right-own l xs o (Here from) a
 Right-answer l xs o Sums a = Right-own l xs o Sums a
 
 -- bytes that are no call are turned away as such, at the first byte that doesn't fit
-abbrev pub Right-row : Limits → List Said → ℕ → Row → Answer → Type 0
+abbrev pub Right-row : Limits → List Said → ℕ → Reading → Answer → Type 0
 Right-row l xs o (Ok c) a = Right-answer l xs o c a
 Right-row l xs o (Err k) a = a ≡ unreadable k
 
 -- whatever happened before, each answer is right
 abbrev pub Right : Stage → Office → Type 0
 Right can f =
-    (l : Limits) (w : World) (o : ℕ) (r : Row) (m : Memory) (a : Answer) (ls : List Letter) → Good-limits can l → Lived f l w → o < l .offices →
+    (l : Limits) (w : World) (o : ℕ) (r : Reading) (m : Memory) (a : Answer) (ls : List Letter) → Good-limits can l → Lived f l w → o < l .offices →
     row-readable r ≡ true → row-known r (w .said) → f .Called l o (w .memory o) r m a ls → Right-row l (w .said) o r a
 
 -- a call that is turned away changes nothing and sends nothing
 abbrev pub Refusal-keeps : Stage → Office → Type 0
 Refusal-keeps can f =
-    (l : Limits) (w : World) (o : ℕ) (r : Row) (m : Memory) (a : Answer) (ls : List Letter) → Good-limits can l → Lived f l w → o < l .offices →
+    (l : Limits) (w : World) (o : ℕ) (r : Reading) (m : Memory) (a : Answer) (ls : List Letter) → Good-limits can l → Lived f l w → o < l .offices →
     row-readable r ≡ true → row-known r (w .said) → f .Called l o (w .memory o) r m a ls → not-refused a ≡ false → (m ≡ w .memory o) × (ls ≡ [])
 
 -- SECOND: news comes, even if all letters until now are lost. After four rounds of news the office at which a
@@ -182,13 +182,13 @@ Stays-small can f =
     × (short (w .sent) ≡ true)
     × ((m : Memory) (ls : List Letter) → f .Ticked l o (w .memory o) m ls → length ls ≤ l .parcels)
     × ((x : List ℕ) (m : Memory) (ls : List Letter) → f .Heard l o (w .memory o) x m ls → length ls ≤ l .offices)
-    × ((r : Row) (m : Memory) (a : Answer) (ls : List Letter) → f .Called l o (w .memory o) r m a ls → length ls ≤ l .offices)
+    × ((r : Reading) (m : Memory) (a : Answer) (ls : List Letter) → f .Called l o (w .memory o) r m a ls → length ls ≤ l .offices)
 
 -- EIGHT STATEMENTS. The first four are about what was taken everywhere, so they speak of no office's program:
 -- that calls were made, each at an office that is there, with a slip that was given out, and answered right.
 pub data Happened (l : Limits) : List Said → Type 0 where
   nothing-yet : Happened l []
-  and-then : {xs : List Said} (o : ℕ) (r : Row) (a : Answer) → Happened l xs → o < l .offices → row-readable r ≡ true → row-known r xs → Right-row l xs o r a → Happened l (record { at = o; row = r; answer = a } ∷ xs)
+  and-then : {xs : List Said} (o : ℕ) (r : Reading) (a : Answer) → Happened l xs → o < l .offices → row-readable r ≡ true → row-known r xs → Right-row l xs o r a → Happened l (record { at = o; reading = r; answer = a } ∷ xs)
 
 -- where a parcel is in its way: not accepted yet, at an office, on the way, or handed out
 pub data Way : Type 0 where

@@ -15,7 +15,7 @@ use Rattle.parcels.specs.declared.Call.the-variants.{Accept, Send, SlipAgain, T
 use Rattle.parcels.specs.declared.Answer.{Answer}
 use Rattle.parcels.specs.declared.Answer.the-variants.{Refused, Number, Given, At, NothingHeard, Two}
 use Rattle.wire.specs.Layout.{readable}
-use Rattle.wire.specs.Calls.{Row}
+use Rattle.wire.specs.Calls.{Reading}
 use Rattle.promises.specs.Truth.{Taken}
 
 -- an office's memory: words, which stay small by a promise
@@ -33,14 +33,14 @@ pub record Letter : Type 0 where
 -- which memory, with which answer, and which letters it may send then, to whom.
 pub record Office : Type 1 where
   pub Opened : Limits → ℕ → Memory → Type 0
-  pub Called : Limits → ℕ → Memory → Row → Memory → Answer → List Letter → Type 0
+  pub Called : Limits → ℕ → Memory → Reading → Memory → Answer → List Letter → Type 0
   pub Heard : Limits → ℕ → Memory → List ℕ → Memory → List Letter → Type 0
   pub Ticked : Limits → ℕ → Memory → Memory → List Letter → Type 0
 
 -- what was handed to an office as a call, and what it answered
 pub record Said : Type 0 where
   pub at : ℕ
-  pub row : Row
+  pub reading : Reading
   pub answer : Answer
 
 -- the world: what each office has in memory; all letters ever sent, in the order in which they were; all
@@ -59,9 +59,9 @@ abbrev pub with-memory : (ℕ → Memory) → ℕ → Memory → ℕ → Memory
 with-memory ms o m q = pick (eqb q o) m (ms q)
 
 -- the world after a call
-abbrev pub after-call : World → ℕ → Row → Memory → Answer → List Letter → World
+abbrev pub after-call : World → ℕ → Reading → Memory → Answer → List Letter → World
 after-call w o r m a ls =
-    record { memory = with-memory (w .memory) o m; sent = w .sent ++ ls; said = record { at = o; row = r; answer = a } ∷ w .said }
+    record { memory = with-memory (w .memory) o m; sent = w .sent ++ ls; said = record { at = o; reading = r; answer = a } ∷ w .said }
 
 -- the world after a letter or a tick
 abbrev pub after-news : World → ℕ → Memory → List Letter → World
@@ -90,12 +90,13 @@ slip-known (Here from) xs = Unit {0}
 slip-known Sums xs = Unit {0}
 
 -- the same of a row of bytes
-abbrev pub row-known : Row → List Said → Type 0
+abbrev pub row-known : Reading → List Said → Type 0
 row-known (Ok c) xs = slip-known c xs
 row-known (Err place) xs = Unit {0}
 
--- a row of bytes is a call only if its fields can carry the call's values
-abbrev pub row-readable : Row → Bool
+-- a row of bytes is read as a call only if its fields can carry the call's values. Any place is let in for a row
+-- that is none, which is more than bytes can come to
+abbrev pub row-readable : Reading → Bool
 row-readable (Ok c) = readable c
 row-readable (Err place) = true
 
@@ -104,7 +105,7 @@ row-readable (Err place) = true
 -- clock ticks.
 pub data Lived (f : Office) (l : Limits) : World → Type 0 where
   opened : (ms : ℕ → Memory) → ((o : ℕ) → o < l .offices → f .Opened l o (ms o)) → Lived f l (new-world ms)
-  called : {w : World} (o : ℕ) (r : Row) (m : Memory) (a : Answer) (ls : List Letter) → Lived f l w → o < l .offices → row-readable r ≡ true → row-known r (w .said) → f .Called l o (w .memory o) r m a ls → Lived f l (after-call w o r m a ls)
+  called : {w : World} (o : ℕ) (r : Reading) (m : Memory) (a : Answer) (ls : List Letter) → Lived f l w → o < l .offices → row-readable r ≡ true → row-known r (w .said) → f .Called l o (w .memory o) r m a ls → Lived f l (after-call w o r m a ls)
   heard : {w : World} (x : Letter) (m : Memory) (ls : List Letter) → Lived f l w → In x (w .sent) → x .to < l .offices → f .Heard l (x .to) (w .memory (x .to)) (x .text) m ls → Lived f l (after-news w (x .to) m ls)
   ticked : {w : World} (o : ℕ) (m : Memory) (ls : List Letter) → Lived f l w → o < l .offices → f .Ticked l o (w .memory o) m ls → Lived f l (after-news w o m ls)
 
@@ -139,11 +140,11 @@ not-refused NothingHeard = true
 not-refused (Two m n) = true
 
 -- a call that was not refused was taken
-abbrev pub taken-by : ℕ → Row → Answer → List Taken
+abbrev pub taken-by : ℕ → Reading → Answer → List Taken
 taken-by o (Ok c) a = pick (not-refused a) (record { at = o; call = c } ∷ []) []
 taken-by o (Err place) a = []
 
 -- the calls that were taken, in the order in which they were
 unfoldable pub taken : List Said → List Taken
 taken [] = []
-taken (x ∷ xs) = taken xs ++ taken-by (x .at) (x .row) (x .answer)
+taken (x ∷ xs) = taken xs ++ taken-by (x .at) (x .reading) (x .answer)

@@ -1,5 +1,5 @@
 -- What a row of bytes is read as: the bytes of an answer tell which it is, and no row has two readings.
-use mathlib.Core.Path.{_≡_, refl, sym, ap, _∙_}
+use mathlib.Core.Path.{_≡_, refl, sym, ap, subst, _∙_}
 use mathlib.Core.Bool.{true}
 use mathlib.Core.List.{List, [], _∷_}
 use Prim.Native.Nat.{ℕ, _*_}
@@ -19,7 +19,7 @@ use Rattle.parcels.specs.declared.Refusal.{Refusal}
 use Rattle.parcels.specs.declared.Answer.{Answer}
 use Rattle.parcels.specs.declared.Answer.the-variants.{Refused, Number, Given, At, NothingHeard, Two}
 use Rattle.wire.specs.Layout.{in-row, answer-bytes}
-use Rattle.wire.specs.Answers.{fits, Reads-answer, Behind}
+use Rattle.wire.specs.Answers.{fits, Reads-answer, Reads-written, Tagged}
 use Rattle.wire.proofs.Values.{same-values, not-as-long}
 use Rattle.wire.proofs.Fields.{refusal-small, step-small, slip-small}
 
@@ -106,7 +106,10 @@ one-answer row (Some a) None r none = absurd (none a r)
 one-answer row None (Some b) none s = absurd (none b s)
 one-answer row None None r s = refl
 
--- a row by its first byte and the part behind it
-pub from-behind : (row part : List ℕ) (k : ℕ) (r : Option Answer) → row ≡ k ∷ part → Behind k part r → Reads-answer row r
-from-behind row part k (Some a) e (number, small, values) = (small, e ∙ ap (λ n. n ∷ part) (sym number) ∙ ap (λ rest. answer-number a ∷ rest) values)
-from-behind row part k None e none = λ a (small, f). none a (sym (ap (λ bs. getD bs 0 0) (sym e ∙ f))) small (ap (drop 1) (sym e ∙ f))
+pub reads-written : (row : List ℕ) (r : Option Answer) → Reads-answer row r → Reads-written row r
+reads-written row r reads a small = (λ e. one-answer row r (Some a) reads (small, e), λ e. subst (λ (s : Option Answer). Reads-answer row s) e reads .1)
+
+-- a row by its tag and its body
+pub from-tagged : (row body : List ℕ) (tag : ℕ) (r : Option Answer) → row ≡ tag ∷ body → Tagged tag body r → Reads-answer row r
+from-tagged row body tag (Some a) e (number, small, values) = (small, e ∙ ap (λ n. n ∷ body) (sym number) ∙ ap (λ rest. answer-number a ∷ rest) values)
+from-tagged row body tag None e none = λ a (small, f). none a (sym (ap (λ bs. getD bs 0 0) (sym e ∙ f))) small (ap (drop 1) (sym e ∙ f))

@@ -1,5 +1,5 @@
 -- What a row of bytes is read as: the bytes of a call tell which it is, and no row has two readings.
-use mathlib.Core.Path.{_≡_, refl, sym, ap, _∙_}
+use mathlib.Core.Path.{_≡_, refl, sym, ap, subst, _∙_}
 use mathlib.Core.Logic.{inl, inr}
 use mathlib.Core.Bool.{true}
 use mathlib.Core.List.{List, [], _∷_, _++_}
@@ -8,14 +8,13 @@ use native.Mathlib.Omega.{arith}
 use lib.ListN.{length, getD, take, drop}
 use Rattle.std.proofs.shelf.Lists.{append-nil, length-append, length-take-le, take-append-drop, take-take, take-all, take-append-le, getD-take, getD-append-left}
 use Rattle.std.proofs.shelf.Tests.{cases-lt}
-use Rattle.std.specs.declared.result.Result.{Result}
 use Rattle.std.specs.declared.result.Result.the-variants.{Ok, Err}
 use Rattle.parcels.specs.Numbers.{call-number, call-values}
 use Rattle.parcels.specs.declared.Slip.{Slip}
 use Rattle.parcels.specs.declared.Call.{Call}
 use Rattle.parcels.specs.declared.Call.the-variants.{Accept, Send, SlipAgain, TakeIn, HandOut, Pay, WhereIs, Here, Sums}
 use Rattle.wire.specs.Layout.{most-call-bytes, readable, call-bytes}
-use Rattle.wire.specs.Calls.{Is-call, Fits-until, Reads}
+use Rattle.wire.specs.Calls.{Reading, Is-call, Fits-until, Reads, Reads-written}
 use Rattle.wire.proofs.Values.{length-in-row, same-values}
 
 -- how many values the call with this number has
@@ -74,11 +73,14 @@ not-below : (row : List ℕ) (j k : ℕ) → Fits-until row j → Fits-until row
 not-below row j k f g = elim (cases-lt j k) [ inl h ↦ absurd (f .no-longer k h (g .within) (g .begins)) | inr h ↦ h ]
 
 -- no row has two readings
-pub one-reading : (row : List ℕ) (r s : Result Call ℕ) → Reads row r → Reads row s → r ≡ s
+pub one-reading : (row : List ℕ) (r s : Reading) → Reads row r → Reads row s → r ≡ s
 one-reading row (Ok c) (Ok d) (fits, e) (small, f) = ap Ok (same-call c d fits small (sym e ∙ f))
 one-reading row (Ok c) (Err k) r (none, f) = absurd (none c r)
 one-reading row (Err k) (Ok c) (none, f) r = absurd (none c r)
 one-reading row (Err j) (Err k) (_, f) (_, g) = ap Err (let a = not-below row j k f g in let b = not-below row k j g f in omega arith)
+
+pub reads-written : (row : List ℕ) (r : Reading) → Reads row r → Reads-written row r
+reads-written row r reads c fits = (λ e. one-reading row r (Ok c) reads (fits, e), λ e. subst (λ (s : Reading). Reads row s) e reads .1)
 
 -- the first byte of a row with which a call begins is the call's number
 number-first : (d : Call) (row rest : List ℕ) (j : ℕ) → 0 < j → j ≤ length row → call-bytes d ≡ take j row ++ rest → call-number d ≡ getD row 0 0

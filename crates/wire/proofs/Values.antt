@@ -12,27 +12,27 @@ use Rattle.std.proofs.shelf.Lists.{append-nil, append-assoc, length-append, tak
 use Rattle.std.proofs.shelf.Tests.{and-parts, and-from}
 use Rattle.std.proofs.shelf.Ways.{tells}
 use Rattle.parcels.specs.Numbers.{eight-bytes, all-below}
-use Rattle.wire.specs.Layout.{low-first, in-row}
+use Rattle.wire.specs.Layout.{little-endian, in-row}
 use Rattle.wire.proofs.Numbers.{value}
 
-pub length-low-first : (k n : ℕ) → length (low-first k n) ≡ k
-unfolding low-first
-length-low-first zero n = refl
-length-low-first (suc k) n = ap suc (length-low-first k (n / 256))
+pub length-little-endian : (k n : ℕ) → length (little-endian k n) ≡ k
+unfolding little-endian
+length-little-endian zero n = refl
+length-little-endian (suc k) n = ap suc (length-little-endian k (n / 256))
 
 pub length-in-row : (k : ℕ) (vs : List ℕ) → length (in-row k vs) ≡ k * length vs
 length-in-row k [] = omega arith
-length-in-row k (v ∷ vs) = omega (arith, length-append (low-first k v) (in-row k vs), length-low-first k v, length-in-row k vs, mul-suc k (length vs))
+length-in-row k (v ∷ vs) = omega (arith, length-append (little-endian k v) (in-row k vs), length-little-endian k v, length-in-row k vs, mul-suc k (length vs))
 
-value-low-first : (k n : ℕ) → n < 256 ^ k → value (low-first k n) ≡ n
-unfolding low-first value
-value-low-first zero n h = omega arith
-value-low-first (suc k) n h =
+value-little-endian : (k n : ℕ) → n < 256 ^ k → value (little-endian k n) ≡ n
+unfolding little-endian value
+value-little-endian zero n h = omega arith
+value-little-endian (suc k) n h =
     let high : n / 256 < 256 ^ k = omega (arith, pow-suc 256 k) in
-    omega (arith, value-low-first k (n / 256) high)
+    omega (arith, value-little-endian k (n / 256) high)
 
-same-number : (k m n : ℕ) → m < 256 ^ k → n < 256 ^ k → low-first k m ≡ low-first k n → m ≡ n
-same-number k m n small low e = sym (value-low-first k m small) ∙ ap value e ∙ value-low-first k n low
+same-number : (k m n : ℕ) → m < 256 ^ k → n < 256 ^ k → little-endian k m ≡ little-endian k n → m ≡ n
+same-number k m n small low e = sym (value-little-endian k m small) ∙ ap value e ∙ value-little-endian k n low
 
 -- values that fit so many bytes each are known by their bytes
 pub same-values : (k : ℕ) (vs ws : List ℕ) → all-below (256 ^ k) vs ≡ true → all-below (256 ^ k) ws ≡ true → length vs ≡ length ws → in-row k vs ≡ in-row k ws → vs ≡ ws
@@ -42,8 +42,8 @@ same-values k (v ∷ vs) [] small low long e = absurd (omega arith)
 same-values k (v ∷ vs) (w ∷ ws) small low long e =
     let p = and-parts (ltb v (256 ^ k)) (all-below (256 ^ k) vs) small in
     let q = and-parts (ltb w (256 ^ k)) (all-below (256 ^ k) ws) low in
-    let first : low-first k v ≡ low-first k w = sym (take-at (low-first k v) (in-row k vs) k (length-low-first k v)) ∙ ap (take k) e ∙ take-at (low-first k w) (in-row k ws) k (length-low-first k w) in
-    let rest : in-row k vs ≡ in-row k ws = sym (drop-at (low-first k v) (in-row k vs) k (length-low-first k v)) ∙ ap (drop k) e ∙ drop-at (low-first k w) (in-row k ws) k (length-low-first k w) in
+    let first : little-endian k v ≡ little-endian k w = sym (take-at (little-endian k v) (in-row k vs) k (length-little-endian k v)) ∙ ap (take k) e ∙ take-at (little-endian k w) (in-row k ws) k (length-little-endian k w) in
+    let rest : in-row k vs ≡ in-row k ws = sym (drop-at (little-endian k v) (in-row k vs) k (length-little-endian k v)) ∙ ap (drop k) e ∙ drop-at (little-endian k w) (in-row k ws) k (length-little-endian k w) in
     let here : v ≡ w = same-number k v w (ltb-true v (256 ^ k) (p .0)) (ltb-true w (256 ^ k) (q .0)) first in
     let there : vs ≡ ws = same-values k vs ws (p .1) (q .1) (omega arith) rest in
     cc
@@ -57,9 +57,9 @@ pub not-as-long : (part vs : List ℕ) (n : ℕ) → (length part ≡ n → ⊥)
 not-as-long part vs n differ is e = differ (ap length e ∙ length-in-row 8 vs ∙ is)
 
 -- one value more at the end
-pub in-row-push : (k : ℕ) (vs : List ℕ) (v : ℕ) → in-row k (vs ++ (v ∷ [])) ≡ in-row k vs ++ low-first k v
-in-row-push k [] v = append-nil (low-first k v)
-in-row-push k (x ∷ xs) v = ap (λ rest. low-first k x ++ rest) (in-row-push k xs v) ∙ sym (append-assoc (low-first k x) (in-row k xs) (low-first k v))
+pub in-row-push : (k : ℕ) (vs : List ℕ) (v : ℕ) → in-row k (vs ++ (v ∷ [])) ≡ in-row k vs ++ little-endian k v
+in-row-push k [] v = append-nil (little-endian k v)
+in-row-push k (x ∷ xs) v = ap (λ rest. little-endian k x ++ rest) (in-row-push k xs v) ∙ sym (append-assoc (little-endian k x) (in-row k xs) (little-endian k v))
 
 pub all-below-push : (n : ℕ) (vs : List ℕ) (v : ℕ) → all-below n vs ≡ true → v < n → all-below n (vs ++ (v ∷ [])) ≡ true
 all-below-push n [] v h small = grind (arith, tells)

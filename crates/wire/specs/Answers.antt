@@ -15,17 +15,19 @@ use Rattle.parcels.specs.declared.Answer.{Answer}
 use Rattle.parcels.specs.declared.Answer.the-variants.{Refused, Number, Given, At, NothingHeard, Two}
 use Rattle.wire.specs.Layout.{lent-for-answer, in-row, answer-bytes, Written}
 
--- values that the fields of a refusal, a slip, a step and an answer can have: four bytes for keys, offices and
--- amounts, and eight for all others
+-- a refusal whose place eight bytes can carry
 abbrev pub refusal-fits : Refusal → Bool
 refusal-fits r = ltb (r .place) eight-bytes
 
+-- a slip whose step eight bytes can carry, and all its other numbers four
 abbrev pub slip-fits : Slip → Bool
 slip-fits s = ltb (s .step) eight-bytes && all-below four-bytes (s .key ∷ (s .from ∷ (s .to ∷ (s .dest ∷ (s .amount ∷ [])))))
 
+-- a step whose number eight bytes can carry, and its office four
 abbrev pub step-fits : Step → Bool
 step-fits s = ltb (s .number) eight-bytes && ltb (s .office) four-bytes
 
+-- an answer whose numbers are such ones, or that eight bytes can carry
 abbrev pub fits : Answer → Bool
 fits (Refused r) = refusal-fits r
 fits (Number n) = ltb n eight-bytes
@@ -43,7 +45,15 @@ abbrev pub Reads-answer : List ℕ → Option Answer → Type 0
 Reads-answer row (Some a) = Is-answer row a
 Reads-answer row None = (a : Answer) → Is-answer row a → ⊥
 
--- an answer is written where the bytes lent are as many as they should be; else they stay as they were
+-- an answer that was written is read as that answer, and no other bytes are read as it
+abbrev pub Reads-written : List ℕ → Option Answer → Type 0
+Reads-written row r = (a : Answer) → fits a ≡ true → (row ≡ answer-bytes a → r ≡ Some a) × (r ≡ Some a → row ≡ answer-bytes a)
+
+-- no other reading of the row is right
+abbrev pub Only-reading : List ℕ → Option Answer → Type 0
+Only-reading row r = (s : Option Answer) → Reads-answer row s → r ≡ s
+
+-- an answer is written where 64 bytes or more are lent; else they stay as they were
 abbrev pub Writes-answer : Answer → List ℕ → List ℕ → Option ℕ → Type 0
 Writes-answer a before after (Some n) = (fits a ≡ true) × (lent-for-answer ≤ length before) × Written (answer-bytes a) before after n
 Writes-answer a before after None = (length before < lent-for-answer) × (after ≡ before)
@@ -55,12 +65,12 @@ abbrev pub Holds : ℕ → List ℕ → Option (List ℕ) → Type 0
 Holds n part (Some ns) = (length ns ≡ n) × (all-below eight-bytes ns ≡ true) × (part ≡ in-row 8 ns)
 Holds n part None = length part ≡ 8 * n → ⊥
 
--- what the part behind the first byte is, by which values are meant and which can be
+-- what the body of an answer is, by the values of each such thing and which of them fit
 abbrev pub Reads-part : {X : Type 0} → (X → Bool) → (X → List ℕ) → List ℕ → Option X → Type 0
 Reads-part can values part (Some x) = (can x ≡ true) × (part ≡ in-row 8 (values x))
 Reads-part {X} can values part None = (x : X) → can x ≡ true → part ≡ in-row 8 (values x) → ⊥
 
--- the answer with this first byte and this part behind it
-abbrev pub Behind : ℕ → List ℕ → Option Answer → Type 0
-Behind k part (Some a) = (answer-number a ≡ k) × (fits a ≡ true) × (part ≡ in-row 8 (answer-values a))
-Behind k part None = (a : Answer) → answer-number a ≡ k → fits a ≡ true → part ≡ in-row 8 (answer-values a) → ⊥
+-- the answer with this first byte, its tag, by the body behind it
+abbrev pub Tagged : ℕ → List ℕ → Option Answer → Type 0
+Tagged tag body (Some a) = (answer-number a ≡ tag) × (fits a ≡ true) × (body ≡ in-row 8 (answer-values a))
+Tagged tag body None = (a : Answer) → answer-number a ≡ tag → fits a ≡ true → body ≡ in-row 8 (answer-values a) → ⊥

@@ -14,8 +14,8 @@ use Rattle.parcels.specs.declared.Call.{Call}
 use Rattle.wire.specs.Layout.{most-call-bytes, readable, call-bytes, Written}
 
 -- what a row of bytes is: a call, or none, with the place of the first byte that doesn't fit
-abbrev pub Row : Type 0
-Row = Result Call ℕ
+abbrev pub Reading : Type 0
+Reading = Result Call ℕ
 
 -- the row is this call
 abbrev pub Is-call : List ℕ → Call → Type 0
@@ -32,9 +32,17 @@ pub record Fits-until (row : List ℕ) (k : ℕ) : Type 0 where
   pub no-longer : (j : ℕ) → k < j → j ≤ length row → Begins (take j row) → ⊥
 
 -- the bytes are this call; or they are none, and fit until there
-abbrev pub Reads : List ℕ → Row → Type 0
+abbrev pub Reads : List ℕ → Reading → Type 0
 Reads row (Ok c) = Is-call row c
 Reads row (Err k) = ((c : Call) → Is-call row c → ⊥) × Fits-until row k
+
+-- a call that was written is read as that call, and no other bytes are read as it
+abbrev pub Reads-written : List ℕ → Reading → Type 0
+Reads-written row r = (c : Call) → readable c ≡ true → (row ≡ call-bytes c → r ≡ Ok c) × (r ≡ Ok c → row ≡ call-bytes c)
+
+-- no other reading of the row is right
+abbrev pub Only-reading : List ℕ → Reading → Type 0
+Only-reading row r = (s : Reading) → Reads row s → r ≡ s
 
 -- a call whose values its fields can carry is written into lent bytes, where these are as many as the longest
 -- call has; else they stay as they were
@@ -44,7 +52,7 @@ Writes c before after None = ((readable c && leb most-call-bytes (length before)
 
 -- FOR THE READER'S OWN FUNCTIONS
 
--- the call that bytes begin with; none, where their first byte is no call's
-abbrev pub Begun : List ℕ → Option Call → Type 0
-Begun bytes (Some c) = (readable c ≡ true) × ((rest : List ℕ) × (bytes ≡ call-bytes c ++ rest))
-Begun bytes None = (c : Call) → call-number c ≡ getD bytes 0 0 → ⊥
+-- the call with which bytes start; none, where their first byte is no call's
+abbrev pub Starts-with : List ℕ → Option Call → Type 0
+Starts-with bytes (Some c) = (readable c ≡ true) × ((rest : List ℕ) × (bytes ≡ call-bytes c ++ rest))
+Starts-with bytes None = (c : Call) → call-number c ≡ getD bytes 0 0 → ⊥

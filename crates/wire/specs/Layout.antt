@@ -17,14 +17,14 @@ abbrev pub lent-for-answer : ℕ
 lent-for-answer = 64
 
 -- a number in so many bytes, low byte first
-unfoldable pub low-first : ℕ → ℕ → List ℕ
-low-first zero n = []
-low-first (suc k) n = n % 256 ∷ low-first k (n / 256)
+unfoldable pub little-endian : ℕ → ℕ → List ℕ
+little-endian zero n = []
+little-endian (suc k) n = n % 256 ∷ little-endian k (n / 256)
 
 -- numbers one behind the other, each in so many bytes
 abbrev pub in-row : ℕ → List ℕ → List ℕ
 in-row k [] = []
-in-row k (n ∷ ns) = low-first k n ++ in-row k ns
+in-row k (n ∷ ns) = little-endian k n ++ in-row k ns
 
 -- a call whose values its fields, four bytes each, can carry
 abbrev pub readable : Call → Bool

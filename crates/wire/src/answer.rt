@@ -2,11 +2,9 @@
 ghost use mathlib.Core.Path.{_≡_};
 ghost use Prim.Native.Nat.{_≤_};
 ghost use lib.ListN.{length};
-ghost use Rattle.std.specs.declared.option.Option.{Option};
-ghost use Rattle.parcels.specs.declared.Answer.{Answer};
 ghost use Rattle.parcels.specs.Numbers.{slip-values, step-values, refusal-values};
 ghost use Rattle.wire.specs.Layout.{in-row};
-ghost use Rattle.wire.specs.Answers.{refusal-fits, slip-fits, step-fits, Holds, Reads-part, Behind, Reads-answer, Writes-answer};
+ghost use Rattle.wire.specs.Answers.{refusal-fits, slip-fits, step-fits, Holds, Reads-part, Tagged, Reads-answer, Reads-written, Only-reading, Writes-answer};
 use crate::number::FIELD_END;
 use crate::number::read_u64;
 use crate::number::write_u64;
@@ -35,27 +33,21 @@ fn read_numbers<const N: usize>(part: &[u8]) -> Option<[u64; N]>
     Some(numbers)
 }
 
-// The refusal that the bytes behind an answer's first are.
-fn read_refusal(part: &[u8]) -> Option<Refusal>
-    ensures { λ r. ⌜ Reads-part refusal-fits refusal-values (now (part .entry)) r ⌝ }
+// The refusal that the body of an answer is.
+fn read_refusal(body: &[u8]) -> Option<Refusal>
+    ensures { λ r. ⌜ Reads-part refusal-fits refusal-values (now (body .entry)) r ⌝ }
 {
-    let Some(numbers) = read_numbers::<2>(part) else {
-        return None;
-    };
+    let numbers = read_numbers::<2>(body)?;
     let [reason, place] = numbers;
-    let Some(reason) = Reason::from_number(reason) else {
-        return None;
-    };
+    let reason = Reason::from_number(reason)?;
     Some(Refusal { reason, place })
 }
 
-// The slip that the bytes behind an answer's first are.
-fn read_slip(part: &[u8]) -> Option<Slip>
-    ensures { λ r. ⌜ Reads-part slip-fits slip-values (now (part .entry)) r ⌝ }
+// The slip that the body of an answer is.
+fn read_slip(body: &[u8]) -> Option<Slip>
+    ensures { λ r. ⌜ Reads-part slip-fits slip-values (now (body .entry)) r ⌝ }
 {
-    let Some(numbers) = read_numbers::<6>(part) else {
-        return None;
-    };
+    let numbers = read_numbers::<6>(body)?;
     let [key, step, from, to, dest, amount] = numbers;
     if key.max(from).max(to).max(dest).max(amount) >= FIELD_END {
         return None;
@@ -70,17 +62,13 @@ fn read_slip(part: &[u8]) -> Option<Slip>
     })
 }
 
-// The step that the bytes behind an answer's first are.
-fn read_step(part: &[u8]) -> Option<Step>
-    ensures { λ r. ⌜ Reads-part step-fits step-values (now (part .entry)) r ⌝ }
+// The step that the body of an answer is.
+fn read_step(body: &[u8]) -> Option<Step>
+    ensures { λ r. ⌜ Reads-part step-fits step-values (now (body .entry)) r ⌝ }
 {
-    let Some(numbers) = read_numbers::<3>(part) else {
-        return None;
-    };
+    let numbers = read_numbers::<3>(body)?;
     let [number, kind, office] = numbers;
-    let Some(kind) = Kind::from_number(kind) else {
-        return None;
-    };
+    let kind = Kind::from_number(kind)?;
     if office >= FIELD_END {
         return None;
     }
@@ -91,49 +79,50 @@ fn read_step(part: &[u8]) -> Option<Step>
     })
 }
 
-// The answer with this first byte, by the bytes behind it.
-fn read_behind(first: u8, part: &[u8]) -> Option<Answer>
-    ensures { λ r. ⌜ Behind first (now (part .entry)) r ⌝ }
+// The answer with this first byte, its tag, by the body behind it.
+fn read_tagged(tag: u8, body: &[u8]) -> Option<Answer>
+    ensures { λ r. ⌜ Tagged tag (now (body .entry)) r ⌝ }
 {
-    match first {
-        0 => Some(Answer::Refused(read_refusal(part)?)),
+    match tag {
+        0 => Some(Answer::Refused(read_refusal(body)?)),
         1 => {
-            let one = read_numbers::<1>(part)?;
+            let one = read_numbers::<1>(body)?;
             Some(Answer::Number(one[0]))
         }
-        2 => Some(Answer::Given(read_slip(part)?)),
-        3 => Some(Answer::At(read_step(part)?)),
-        4 if part.is_empty() => Some(Answer::NothingHeard),
+        2 => Some(Answer::Given(read_slip(body)?)),
+        3 => Some(Answer::At(read_step(body)?)),
+        4 if body.is_empty() => Some(Answer::NothingHeard),
         5 => {
-            let two = read_numbers::<2>(part)?;
+            let two = read_numbers::<2>(body)?;
             Some(Answer::Two(two[0], two[1]))
         }
         _ => None,
     }
 }
 
-// Which answer a row of bytes is; None where it is none. Nothing else is right.
+// Which answer a row of bytes is; None where it is none.
 pub fn read_answer(row: &[u8]) -> Option<Answer>
     ensures value { λ r. ⌜ Reads-answer (now (row .entry)) r ⌝ }
-    ensures only { λ r. ⌜ ((s : Option Answer) → Reads-answer (now (row .entry)) s → r ≡ s) ⌝ }
+    ensures written { λ r. ⌜ Reads-written (now (row .entry)) r ⌝ }
+    ensures only { λ r. ⌜ Only-reading (now (row .entry)) r ⌝ }
 {
     if row.is_empty() {
         return None;
     }
-    read_behind(row[0], &row[1..])
+    read_tagged(row[0], &row[1..])
 }
 
 // Writes a slip as an answer has it, into 48 bytes.
-fn write_slip(part: &mut [u8], slip: Slip)
+fn write_slip(slip: Slip, part: &mut [u8])
     requires { ⌜ length (now part) ≡ 48 ⌝ }
     ensures { λ _. ⌜ now (part .exit) ≡ in-row 8 (slip-values slip) ⌝ }
 {
-    write_u64(&mut part[0..8], u64::from(slip.key));
-    write_u64(&mut part[8..16], slip.step);
-    write_u64(&mut part[16..24], u64::from(slip.from));
-    write_u64(&mut part[24..32], u64::from(slip.to));
-    write_u64(&mut part[32..40], u64::from(slip.dest));
-    write_u64(&mut part[40..48], u64::from(slip.amount));
+    write_u64(u64::from(slip.key), &mut part[0..8]);
+    write_u64(slip.step, &mut part[8..16]);
+    write_u64(u64::from(slip.from), &mut part[16..24]);
+    write_u64(u64::from(slip.to), &mut part[24..32]);
+    write_u64(u64::from(slip.dest), &mut part[32..40]);
+    write_u64(u64::from(slip.amount), &mut part[40..48]);
 }
 
 // Writes an answer into lent bytes, and says how many it took. None, with nothing written, where fewer than 64
@@ -147,28 +136,28 @@ pub fn write_answer(answer: Answer, out: &mut [u8]) -> Option<usize>
     out[0] = answer.number();
     match answer {
         Answer::Refused(refusal) => {
-            write_u64(&mut out[1..9], u64::from(refusal.reason.number()));
-            write_u64(&mut out[9..17], refusal.place);
+            write_u64(u64::from(refusal.reason.number()), &mut out[1..9]);
+            write_u64(refusal.place, &mut out[9..17]);
             Some(17)
         }
         Answer::Number(n) => {
-            write_u64(&mut out[1..9], n);
+            write_u64(n, &mut out[1..9]);
             Some(9)
         }
         Answer::Given(slip) => {
-            write_slip(&mut out[1..49], slip);
+            write_slip(slip, &mut out[1..49]);
             Some(49)
         }
         Answer::At(step) => {
-            write_u64(&mut out[1..9], step.number);
-            write_u64(&mut out[9..17], u64::from(step.kind.number()));
-            write_u64(&mut out[17..25], u64::from(step.office));
+            write_u64(step.number, &mut out[1..9]);
+            write_u64(u64::from(step.kind.number()), &mut out[9..17]);
+            write_u64(u64::from(step.office), &mut out[17..25]);
             Some(25)
         }
         Answer::NothingHeard => Some(1),
         Answer::Two(m, n) => {
-            write_u64(&mut out[1..9], m);
-            write_u64(&mut out[9..17], n);
+            write_u64(m, &mut out[1..9]);
+            write_u64(n, &mut out[9..17]);
             Some(17)
         }
     }

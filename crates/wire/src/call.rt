@@ -5,7 +5,7 @@ ghost use Prim.Native.Nat.{_<_};
 ghost use lib.ListN.{length, take};
 ghost use Rattle.parcels.specs.Numbers.{four-bytes, all-below, slip-values};
 ghost use Rattle.wire.specs.Layout.{most-call-bytes, in-row, readable, call-bytes};
-ghost use Rattle.wire.specs.Calls.{Row, Begun, Reads, Writes};
+ghost use Rattle.wire.specs.Calls.{Starts-with, Reads, Reads-written, Only-reading, Writes};
 use crate::number::FIELD_END;
 use crate::number::read_u32;
 use crate::number::write_u32;
@@ -31,10 +31,10 @@ fn read_slip(part: &[u8]) -> Slip
     }
 }
 
-// The call that the bytes begin with.
+// The call with which the bytes start.
 fn first_call(bytes: &[u8]) -> Option<Call>
     requires { ⌜ length (now bytes) ≡ most-call-bytes ⌝ }
-    ensures { λ r. ⌜ Begun (now (bytes .entry)) r ⌝ }
+    ensures { λ r. ⌜ Starts-with (now (bytes .entry)) r ⌝ }
 {
     Some(
         match bytes[0] {
@@ -99,10 +99,11 @@ fn padded(row: &[u8]) -> [u8; MAX_CALL_BYTES]
 }
 
 // Which call a row of bytes is; or the place of its first byte that doesn't fit, where the longest front that
-// some call begins with ends. No other answer is right.
+// some call begins with ends.
 pub fn read_call(row: &[u8]) -> Result<Call, u64>
     ensures value { λ r. ⌜ Reads (now (row .entry)) r ⌝ }
-    ensures only { λ r. ⌜ ((s : Row) → Reads (now (row .entry)) s → r ≡ s) ⌝ }
+    ensures written { λ r. ⌜ Reads-written (now (row .entry)) r ⌝ }
+    ensures only { λ r. ⌜ Only-reading (now (row .entry)) r ⌝ }
 {
     let Some(call) = first_call(&padded(row)) else {
         return Err(0);
@@ -115,17 +116,17 @@ pub fn read_call(row: &[u8]) -> Result<Call, u64>
 }
 
 // Writes a slip as a call has it, into 24 bytes.
-fn write_slip(part: &mut [u8], slip: Slip)
+fn write_slip(slip: Slip, part: &mut [u8])
     requires room { ⌜ length (now part) ≡ 24 ⌝ }
     requires fits { ⌜ slip .step < four-bytes ⌝ }
     ensures { λ _. ⌜ now (part .exit) ≡ in-row 4 (slip-values slip) ⌝ }
 {
-    write_u32(&mut part[0..4], slip.key);
-    write_u32(&mut part[4..8], slip.step as u32);
-    write_u32(&mut part[8..12], slip.from);
-    write_u32(&mut part[12..16], slip.to);
-    write_u32(&mut part[16..20], slip.dest);
-    write_u32(&mut part[20..24], slip.amount);
+    write_u32(slip.key, &mut part[0..4]);
+    write_u32(slip.step as u32, &mut part[4..8]);
+    write_u32(slip.from, &mut part[8..12]);
+    write_u32(slip.to, &mut part[12..16]);
+    write_u32(slip.dest, &mut part[16..20]);
+    write_u32(slip.amount, &mut part[20..24]);
 }
 
 // Whether the fields of a call, four bytes each, can carry its values: all but a slip's step always fit.
@@ -150,19 +151,19 @@ pub fn write_call(call: Call, out: &mut [u8]) -> Option<usize>
     out[0] = call.number();
     match call {
         Call::Accept { dest, amount } => {
-            write_u32(&mut out[1..5], dest);
-            write_u32(&mut out[5..9], amount);
+            write_u32(dest, &mut out[1..5]);
+            write_u32(amount, &mut out[5..9]);
         }
         Call::Send { key, to } => {
-            write_u32(&mut out[1..5], key);
-            write_u32(&mut out[5..9], to);
+            write_u32(key, &mut out[1..5]);
+            write_u32(to, &mut out[5..9]);
         }
-        Call::SlipAgain { key } => write_u32(&mut out[1..5], key),
-        Call::TakeIn { slip } => write_slip(&mut out[1..25], slip),
-        Call::HandOut { key } => write_u32(&mut out[1..5], key),
-        Call::Pay { key } => write_u32(&mut out[1..5], key),
-        Call::WhereIs { key } => write_u32(&mut out[1..5], key),
-        Call::Here { from } => write_u32(&mut out[1..5], from),
+        Call::SlipAgain { key } => write_u32(key, &mut out[1..5]),
+        Call::TakeIn { slip } => write_slip(slip, &mut out[1..25]),
+        Call::HandOut { key } => write_u32(key, &mut out[1..5]),
+        Call::Pay { key } => write_u32(key, &mut out[1..5]),
+        Call::WhereIs { key } => write_u32(key, &mut out[1..5]),
+        Call::Here { from } => write_u32(from, &mut out[1..5]),
         Call::Sums => {}
     }
     Some(len)

@@ -1,4 +1,4 @@
-// Calls and answers as bytes: which bytes each is, and which call or answer bytes are.
+// Calls and answers as bytes: how each is written, and what a row of bytes is read as.
 pub use answer::ANSWER_BYTES;
 pub use answer::read_answer;
 pub use answer::write_answer;

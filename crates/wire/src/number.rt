@@ -1,7 +1,7 @@
 // Numbers as bytes, low byte first.
 ghost use mathlib.Core.Path.{_≡_};
 ghost use lib.ListN.{length};
-ghost use Rattle.wire.specs.Layout.{low-first};
+ghost use Rattle.wire.specs.Layout.{little-endian};
 
 // The first number that four bytes can't hold.
 pub const FIELD_END: u64 = 4_294_967_296;
@@ -9,14 +9,14 @@ pub const FIELD_END: u64 = 4_294_967_296;
 // The number that four bytes hold.
 pub fn read_u32(part: &[u8]) -> u32
     requires { ⌜ length (now part) ≡ 4 ⌝ }
-    ensures { λ r. ⌜ now (part .entry) ≡ low-first 4 r ⌝ }
+    ensures { λ r. ⌜ now (part .entry) ≡ little-endian 4 r ⌝ }
 {
     u32::from_le_bytes([part[0], part[1], part[2], part[3]])
 }
 
-pub fn write_u32(part: &mut [u8], n: u32)
+pub fn write_u32(n: u32, part: &mut [u8])
     requires { ⌜ length (now part) ≡ 4 ⌝ }
-    ensures { λ _. ⌜ now (part .exit) ≡ low-first 4 n ⌝ }
+    ensures { λ _. ⌜ now (part .exit) ≡ little-endian 4 n ⌝ }
 {
     part.copy_from_slice(&n.to_le_bytes());
 }
@@ -24,7 +24,7 @@ pub fn write_u32(part: &mut [u8], n: u32)
 // The number that eight bytes hold.
 pub fn read_u64(part: &[u8]) -> u64
     requires { ⌜ length (now part) ≡ 8 ⌝ }
-    ensures { λ r. ⌜ now (part .entry) ≡ low-first 8 r ⌝ }
+    ensures { λ r. ⌜ now (part .entry) ≡ little-endian 8 r ⌝ }
 {
     u64::from_le_bytes([
         part[0],
@@ -38,9 +38,9 @@ pub fn read_u64(part: &[u8]) -> u64
     ])
 }
 
-pub fn write_u64(part: &mut [u8], n: u64)
+pub fn write_u64(n: u64, part: &mut [u8])
     requires { ⌜ length (now part) ≡ 8 ⌝ }
-    ensures { λ _. ⌜ now (part .exit) ≡ low-first 8 n ⌝ }
+    ensures { λ _. ⌜ now (part .exit) ≡ little-endian 8 n ⌝ }
 {
     part.copy_from_slice(&n.to_le_bytes());
 }

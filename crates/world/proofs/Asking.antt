@@ -14,7 +14,7 @@ use Rattle.parcels.specs.Calls.{Limits}
 use Rattle.parcels.specs.declared.Call.{Call}
 use Rattle.parcels.specs.declared.Answer.{Answer}
 use Rattle.wire.specs.Layout.{readable, call-bytes, answer-bytes, Written}
-use Rattle.wire.specs.Calls.{Row, Reads}
+use Rattle.wire.specs.Calls.{Reading, Reads}
 use Rattle.wire.specs.Answers.{Reads-answer}
 use Rattle.office.specs.Opening.{stage-limits}
 use Rattle.office.specs.Answering.{Answers, Answered, Replies}
@@ -25,7 +25,7 @@ use Rattle.world.specs.declared.CannotHappen.{CannotHappen}
 use Rattle.world.specs.Outcome.{Asked, Handed, Came}
 
 -- the limits of an office don't matter to what it answers in this stage
-pub any-limits : (m n p q o k : ℕ) (r : Row) (a : Answer) → Answers (stage-limits m p) o r a → Answers (stage-limits n q) k r a
+pub any-limits : (m n p q o k : ℕ) (r : Reading) (a : Answer) → Answers (stage-limits m p) o r a → Answers (stage-limits n q) k r a
 any-limits m n p q o k (Ok c) a h = h
 any-limits m n p q o k (Err place) a h = h
 
@@ -45,14 +45,14 @@ pub read-back : (l : Limits) (o : ℕ) (bytes before after : List ℕ) (len : �
 read-back l o bytes before after len a r only = only (Some (a .answer)) (a .fit, front (answer-bytes (a .answer)) before after len (a .written))
 
 -- bytes that were read once were read by the office as the same
-pub answered-as : (l : Limits) (o : ℕ) (bytes : List ℕ) (r : Row) (a : Answer) → ((s : Row) → Reads bytes s → r ≡ s) → Asked l o bytes a → Answers l o r a
-answered-as l o bytes r a only (s, reads, is) = subst (λ (x : Row). Answers l o x a) (sym (only s reads)) is
+pub answered-as : (l : Limits) (o : ℕ) (bytes : List ℕ) (r : Reading) (a : Answer) → ((s : Reading) → Reads bytes s → r ≡ s) → Asked l o bytes a → Answers l o r a
+answered-as l o bytes r a only (s, reads, is) = subst (λ (x : Reading). Answers l o x a) (sym (only s reads)) is
 
-pub readable-as : (bytes : List ℕ) (r : Row) → Reads bytes r → row-readable r ≡ true
+pub readable-as : (bytes : List ℕ) (r : Reading) → Reads bytes r → row-readable r ≡ true
 readable-as bytes (Ok c) (fits, _) = fits
 readable-as bytes (Err k) _ = refl
 
 -- the bytes of a call are handed on as that call
 pub handed-as : (l : Limits) (xs : List Exchange) (o : ℕ) (c : Call) (bytes : List ℕ) (a : Result Answer CannotHappen) (ys : List Exchange) → readable c ≡ true → bytes ≡ call-bytes c →
     Came l xs o bytes a ys → Handed l xs o (Ok c) a ys
-handed-as l xs o c bytes a ys fits e (r, reads, h) = subst (λ (x : Row). Handed l xs o x a ys) (one-reading bytes r (Ok c) reads (fits, e)) h
+handed-as l xs o c bytes a ys fits e (r, reads, h) = subst (λ (x : Reading). Handed l xs o x a ys) (one-reading bytes r (Ok c) reads (fits, e)) h

@@ -12,7 +12,7 @@ use Rattle.world.specs.declared.Exchange.{Exchange}
 use Rattle.world.specs.Ours.{history}
 
 abbrev pub said-of : Exchange → Said
-said-of x = record { at = x .at; row = x .row; answer = x .answer }
+said-of x = record { at = x .at; reading = x .reading; answer = x .answer }
 
 history-append : (xs ys : List Exchange) → history (xs ++ ys) ≡ history ys ++ history xs
 unfolding history

@@ -20,7 +20,7 @@ use Rattle.parcels.specs.declared.Answer.{Answer}
 use Rattle.parcels.specs.declared.Answer.the-variants.{Refused}
 use Rattle.office.specs.Opening.{stage-limits}
 use Rattle.office.specs.Answering.{Answers}
-use Rattle.wire.specs.Calls.{Row}
+use Rattle.wire.specs.Calls.{Reading}
 use Rattle.promises.specs.World.{Memory, Said, World, Lived, called, opened, row-readable, row-known, with-memory}
 use Rattle.promises.specs.Promise.{Right-answer, Right-row, Right-pay, Right-where}
 use Rattle.world.specs.declared.Exchange.{Exchange}
@@ -53,7 +53,7 @@ right l xs o (Here from) a g h = h _
 right l xs o Sums a g h = h _
 
 -- so is what a row of bytes is answered
-pub right-row : (l : Limits) (xs : List Said) (o : ℕ) (r : Row) (a : Answer) → ((k : ℕ) → l .can k ≡ nothing k) → Answers l o r a → Right-row l xs o r a
+pub right-row : (l : Limits) (xs : List Said) (o : ℕ) (r : Reading) (a : Answer) → ((k : ℕ) → l .can k ≡ nothing k) → Answers l o r a → Right-row l xs o r a
 right-row l xs o (Ok c) a g h = right l xs o c a g h
 right-row l xs o (Err k) a g h = h
 
@@ -66,17 +66,17 @@ nowhere o = fun-ext (λ q. same (eqb q o))
     same false = refl
 
 -- one call more can happen
-pub goes-on : (n p o : ℕ) (xs : List Exchange) (r : Row) (a : Answer) → o < n → row-readable r ≡ true → row-known r (history xs) → Answers (stage-limits n p) o r a →
-    ∥ Lived ours (stage-limits n p) (world-of xs) ∥₁ → ∥ Lived ours (stage-limits n p) (world-of (xs ++ (record { at = o; row = r; answer = a } ∷ []))) ∥₁
+pub goes-on : (n p o : ℕ) (xs : List Exchange) (r : Reading) (a : Answer) → o < n → row-readable r ≡ true → row-known r (history xs) → Answers (stage-limits n p) o r a →
+    ∥ Lived ours (stage-limits n p) (world-of xs) ∥₁ → ∥ Lived ours (stage-limits n p) (world-of (xs ++ (record { at = o; reading = r; answer = a } ∷ []))) ∥₁
 goes-on n p o xs r a there fits known h v =
-    let x : Exchange = record { at = o; row = r; answer = a } in
+    let x : Exchange = record { at = o; reading = r; answer = a } in
     let same : record { memory = with-memory (λ q. []) o []; sent = []; said = said-of x ∷ history xs } ≡ world-of (xs ++ (x ∷ [])) =
     ap (λ (m : ℕ → Memory). record { memory = m; sent = []; said = said-of x ∷ history xs }) (nowhere o)
     ∙ ap (λ (s : List Said). record { memory = λ q. []; sent = []; said = s }) (sym (history-push xs x)) in
     ∥∥₁-map v (λ w. subst (λ (u : World). Lived ours (stage-limits n p) u) same (called o r [] a [] w there fits known (refl, h, refl)))
 
 -- whether or not there was memory to write a call down
-pub goes-on-if : (ok : Bool) (n p o : ℕ) (xs ys : List Exchange) (r : Row) (a : Answer) → ys ≡ cond ok (xs ++ (record { at = o; row = r; answer = a } ∷ [])) xs → o < n → row-readable r ≡ true →
+pub goes-on-if : (ok : Bool) (n p o : ℕ) (xs ys : List Exchange) (r : Reading) (a : Answer) → ys ≡ cond ok (xs ++ (record { at = o; reading = r; answer = a } ∷ [])) xs → o < n → row-readable r ≡ true →
     row-known r (history xs) → Answers (stage-limits n p) o r a →
     ∥ Lived ours (stage-limits n p) (world-of xs) ∥₁ → ∥ Lived ours (stage-limits n p) (world-of ys) ∥₁
 goes-on-if true n p o xs ys r a e there fits known h v = rw e (goes-on n p o xs r a there fits known h v)
@@ -92,5 +92,5 @@ there-by : (t : Bool) (r : Result (Unit {0}) CannotHappen) (u : Unit {0}) → r 
 there-by true r u d e = refl
 there-by false r u d e = let never : _≡_ {A = ℕ} 0 1 = cc in absurd (omega arith)
 
-pub is-there : (n o : ℕ) (u : Unit {0}) → Ok u ≡ at-office n o tt → o < n
+pub is-there : (n o : ℕ) (u : Unit {0}) → Ok u ≡ at-office n o → o < n
 is-there n o u e = ltb-true o n (there-by (ltb o n) (Ok u) u refl e)

@@ -24,7 +24,7 @@ office-at offices own parcels = record { offices = offices; own = own; parcels =
 -- all that was said, the last first, by a journal that has the oldest first
 unfoldable pub history : List Exchange → List Said
 history [] = []
-history (x ∷ xs) = history xs ++ (record { at = x .at; row = x .row; answer = x .answer } ∷ [])
+history (x ∷ xs) = history xs ++ (record { at = x .at; reading = x .reading; answer = x .answer } ∷ [])
 
 -- the world of a journal: no office has memory, and no letter was sent
 abbrev pub world-of : List Exchange → World

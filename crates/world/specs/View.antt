@@ -10,6 +10,6 @@ use Rattle.world.specs.declared.World.{World}
 abbrev pub limits-of : World → Limits
 limits-of w = stage-limits (vec-len (w .offices)) (w .parcels)
 
--- the calls and their answers, the oldest first
+-- what was handed to offices as calls, and their answers, the oldest first
 abbrev pub journal-of : World → List Exchange
 journal-of w = vec-items (w .journal)

@@ -1,8 +1,7 @@
 // The things that can happen in a world.
 ghost use mathlib.Core.Path.{_≡_};
-ghost use mathlib.Core.Bool.{true, false};
 ghost use Rattle.std.specs.Orderings.{Decides};
-ghost use Rattle.std.specs.declared.result.Result.the-variants.{Ok, Err};
+ghost use Rattle.std.specs.declared.result.Result.the-variants.{Err};
 ghost use Rattle.parcels.specs.declared.Answer.the-variants.{Given};
 ghost use Prim.Native.Nat.{_<_};
 ghost use Rattle.promises.specs.World.{given, row-known};
@@ -71,10 +70,10 @@ impl World {
     }
 
     // Whether the slip that a call comes with, if it is one with a slip, was given out.
-    fn slip_is_known(&self, row: Result<Call, u64>) -> bool
-        ensures { λ r. ⌜ Decides r (row-known row (history (journal-of (now (self .entry))))) ⌝ }
+    fn slip_is_known(&self, reading: Result<Call, u64>) -> bool
+        ensures { λ r. ⌜ Decides r (row-known reading (history (journal-of (now (self .entry))))) ⌝ }
     {
-        match row {
+        match reading {
             Ok(Call::TakeIn { slip }) => self.was_given(slip),
             _ => true,
         }
@@ -96,7 +95,7 @@ impl World {
 
     // Whether an office is there.
     fn at_office(&self, at: u32) -> Result<(), CannotHappen>
-        ensures { λ r. ⌜ r ≡ at-office (limits-of (now (self .entry)) .offices) at tt ⌝ }
+        ensures { λ r. ⌜ r ≡ at-office (limits-of (now (self .entry)) .offices) at ⌝ }
     {
         if at as usize >= self.offices.len() {
             return Err(CannotHappen::NoOffice);
@@ -106,7 +105,7 @@ impl World {
 
     // An office's clock ticks: nothing comes of it, in this stage.
     pub fn tick(&self, clock: u32) -> Result<(), CannotHappen>
-        ensures { λ r. ⌜ r ≡ at-office (limits-of (now (self .entry)) .offices) clock tt ⌝ }
+        ensures { λ r. ⌜ r ≡ at-office (limits-of (now (self .entry)) .offices) clock ⌝ }
     {
         self.at_office(clock)
     }
@@ -133,15 +132,15 @@ impl World {
         ensures value { λ r. ⌜ Came (limits-of (now (self .entry))) (journal-of (now (self .entry))) at (now (row .entry)) r (journal-of (now (self .exit))) ⌝ }
         ensures same { λ _. ⌜ limits-of (now (self .exit)) ≡ limits-of (now (self .entry)) ⌝ }
     {
-        let read = read_call(row);
+        let reading = read_call(row);
         self.at_office(at)?;
-        if !self.slip_is_known(read) {
+        if !self.slip_is_known(reading) {
             return Err(CannotHappen::NeverGiven);
         }
         let answer = self.ask(at, row);
         let Ok(()) = self.journal.push(Exchange {
             at,
-            row: read,
+            reading,
             answer,
         })
         else {

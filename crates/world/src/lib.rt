@@ -14,11 +14,11 @@ use parcels::Call;
 
 mod happen;
 
-// What was handed to an office as a call, by what its bytes are, and what it answered.
+// What was handed to an office as a call, by what its bytes were read as, and what it answered.
 #[derive(Clone, Copy)]
 pub struct Exchange {
     pub at: u32,
-    pub row: Result<Call, u64>,
+    pub reading: Result<Call, u64>,
     pub answer: Answer,
 }
 
@@ -35,8 +35,8 @@ pub enum CannotHappen {
     NoMemory,
 }
 
-// All offices of a post, from number 0 up, each with the same limit of parcels, and the journal of all calls,
-// the oldest first. The invariant: what it holds came about by things that can happen.
+// All offices of a post, from number 0 up, each with the same limit of parcels, and the journal of all that was
+// handed to them as calls, the oldest first. The invariant: what it holds came about by things that can happen.
 #[derive(Drop)]
 pub struct World {
     parcels: u32,

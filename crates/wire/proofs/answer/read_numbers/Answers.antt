@@ -7,7 +7,7 @@ use lib.ListN.{length, take, drop, set}
 use lib.Seq.{take-add}
 use Rattle.std.proofs.shelf.Lists.{length-set, length-replicate, take-all, take-more-set}
 use Rattle.parcels.specs.Numbers.{eight-bytes, all-below}
-use Rattle.wire.specs.Layout.{in-row, low-first}
+use Rattle.wire.specs.Layout.{in-row, little-endian}
 use Rattle.wire.proofs.Values.{in-row-push, all-below-push}
 use Rattle.wire.proofs.answer.read_numbers.Needs as need
 
@@ -15,12 +15,12 @@ use Rattle.wire.proofs.answer.read_numbers.Needs as need
 more-fit : (ns : List ℕ) (i v : ℕ) → i < length ns → v < eight-bytes → all-below eight-bytes (take i ns) ≡ true → all-below eight-bytes (take (i + 1) (set ns i v)) ≡ true
 more-fit ns i v h small fit = ap (all-below eight-bytes) (take-more-set ns i v h) ∙ all-below-push eight-bytes (take i ns) v fit small
 
-more-read : (part ns : List ℕ) (i v : ℕ) → i < length ns → take (8 * i) part ≡ in-row 8 (take i ns) → take (8 * i + 8 - 8 * i) (drop (8 * i) part) ≡ low-first 8 v →
+more-read : (part ns : List ℕ) (i v : ℕ) → i < length ns → take (8 * i) part ≡ in-row 8 (take i ns) → take (8 * i + 8 - 8 * i) (drop (8 * i) part) ≡ little-endian 8 v →
     take (8 * (i + 1)) part ≡ in-row 8 (take (i + 1) (set ns i v))
 more-read part ns i v h before here =
     let eight : 8 * i + 8 - 8 * i ≡ 8 = omega arith in
     let far : 8 * (i + 1) ≡ 8 * i + 8 = omega arith in
-    let next : take 8 (drop (8 * i) part) ≡ low-first 8 v = ap (λ k. take k (drop (8 * i) part)) (sym eight) ∙ here in
+    let next : take 8 (drop (8 * i) part) ≡ little-endian 8 v = ap (λ k. take k (drop (8 * i) part)) (sym eight) ∙ here in
     ap (λ k. take k part) far
     ∙ take-add (8 * i) 8 part
     ∙ ap (λ front. front ++ take 8 (drop (8 * i) part)) before

@@ -7,16 +7,19 @@ use lib.Dec.{ltb}
 use lib.ListN.{getD}
 use Rattle.std.proofs.shelf.Lists.{drop-all}
 use Rattle.std.proofs.shelf.Ways.{tells}
+use Rattle.std.specs.declared.option.Option.{Option}
 use Rattle.parcels.specs.Numbers.{four-bytes, eight-bytes, slip-values}
 use Rattle.parcels.specs.declared.Slip.{Slip}
 use Rattle.wire.specs.Layout.{in-row}
-use Rattle.wire.specs.Answers.{slip-fits}
+use Rattle.wire.specs.Answers.{slip-fits, Reads-part}
 use Rattle.wire.proofs.Values.{below-at, next-value}
 use Rattle.wire.proofs.Fields.{slip-small, wrong-length, held-values}
 use Rattle.wire.proofs.answer.read_slip.Needs as need
 
-pub returns-in-rest : need.returns-in-rest
-returns-in-rest c = wrong-length slip-fits slip-values slip-small 6 (λ s. refl) (c .args .part .now) (c .in-rest .ensures tt)
+pub returns-in-Break-numbers : need.returns-in-Break-numbers
+returns-in-Break-numbers c =
+    subst (λ (r : Option Slip). Reads-part slip-fits slip-values (c .args .body .now) r) (sym (c .from-residual .ensures))
+    (wrong-length slip-fits slip-values slip-small 6 (λ x. refl) (c .args .body .now) (c .in-Break-numbers .ensures tt))
 
 -- the largest of the numbers that have four bytes
 largest : List ℕ → ℕ
@@ -29,8 +32,8 @@ largest-fits s fits = grind (arith, tells)
 pub returns-then-max-ge-FIELD-END : need.returns-then-max-ge-FIELD-END
 unfolding largest
 returns-then-max-ge-FIELD-END c s fits e =
-    let ns : List ℕ = c .in-Some .numbers in
-    let same : ns ≡ slip-values s = held-values slip-fits slip-values slip-small 6 (λ x. refl) (c .args .part .now) ns (c .in-Some .ensures tt) s fits e in
+    let ns : List ℕ = c .in-Continue-numbers .numbers in
+    let same : ns ≡ slip-values s = held-values slip-fits slip-values slip-small 6 (λ x. refl) (c .args .body .now) ns (c .in-Continue-numbers .ensures tt) s fits e in
     let low : largest ns < four-bytes = subst (λ (vs : List ℕ). largest vs < four-bytes) (sym same) (largest-fits s fits) in
     omega arith
 
@@ -42,8 +45,8 @@ fits-by ns step low = grind (arith, tells)
 pub returns : need.returns
 unfolding largest
 returns c =
-    let ns : List ℕ = c .in-Some .numbers in
-    let (count, small, held) = c .in-Some .ensures tt in
+    let ns : List ℕ = c .in-Continue-numbers .numbers in
+    let (count, small, held) = c .in-Continue-numbers .ensures tt in
     let listed : ns ≡ getD ns 0 0 ∷ (getD ns 1 0 ∷ (getD ns 2 0 ∷ (getD ns 3 0 ∷ (getD ns 4 0 ∷ (getD ns 5 0 ∷ []))))) =
     next-value ns 0 (omega arith) (next-value ns 1 (omega arith) (next-value ns 2 (omega arith) (next-value ns 3 (omega arith) (next-value ns 4 (omega arith) (next-value ns 5 (omega arith) (drop-all 6 ns (omega arith))))))) in
     let low : largest ns < four-bytes = omega arith in

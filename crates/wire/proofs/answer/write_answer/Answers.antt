@@ -1,20 +1,18 @@
 use borrow.Author.Needs.{needs}
-use mathlib.Core.Path.{_≡_, refl, sym, ap, _∙_}
+use mathlib.Core.Path.{_≡_, sym, ap, _∙_}
 use mathlib.Core.List.{List, [], _∷_, _++_, append-assoc, append-nil}
 use Prim.Native.Nat.{ℕ}
 use native.Mathlib.Omega.{arith}
-use lib.ListN.{length}
 use Rattle.parcels.specs.Numbers.{kind-number, answer-number, answer-values}
 use Rattle.parcels.specs.declared.Answer.{Answer}
-use Rattle.wire.specs.Layout.{in-row, low-first, answer-bytes, Written}
-use Rattle.wire.proofs.Writing.{Filled, first-byte, and-number, done}
+use Rattle.wire.specs.Layout.{in-row, little-endian, answer-bytes, Written}
+use Rattle.wire.proofs.Writing.{first-byte, and-number, written-as}
 use Rattle.wire.proofs.answer.write_answer.Needs as need
 
 -- by the answer that it is
-wrote : (a d : Answer) (b i : ℕ) (vs before after : List ℕ) → a ≡ d → b ≡ answer-number a → Filled i (b ∷ vs) before after → vs ≡ in-row 8 (answer-values d) → Written (answer-bytes a) before after i
-wrote a d b i vs before after e f g h =
-    let values : vs ≡ in-row 8 (answer-values a) = h ∙ ap (λ x. in-row 8 (answer-values x)) (sym e) in
-    done b (answer-number a) i i vs (in-row 8 (answer-values a)) before after after f g values refl (sym (g .count) ∙ ap (λ ws. length (b ∷ ws)) values)
+wrote : (a d : Answer) (b i : ℕ) (vs before after : List ℕ) → a ≡ d → b ≡ answer-number a → Written (b ∷ vs) before after i → vs ≡ in-row 8 (answer-values d) → Written (answer-bytes a) before after i
+wrote a d b i vs before after e f w h =
+    written-as b (answer-number a) i vs (in-row 8 (answer-values a)) before after f (h ∙ ap (λ x. in-row 8 (answer-values x)) (sym e)) w
 
 three-parts : (xs ys zs : List ℕ) → (xs ++ ys) ++ zs ≡ xs ++ (ys ++ (zs ++ []))
 three-parts xs ys zs = append-assoc xs ys zs ∙ ap (λ rest. xs ++ (ys ++ rest)) (sym (append-nil zs))
@@ -24,7 +22,7 @@ returns-in-Refused c = (
   search needs,
   c .if-out-lt-ANSWER-BYTES .left,
   wrote (c .args .answer) _ (c .number .result) 17 _ (c .args .out .now) _ (c .in-Refused .is) (c .number .ensures)
-      (and-number 9 8 _ _ (and-number 1 8 _ _ (first-byte (c .args .out .now) (c .number .result) (omega arith)) (c .write-u64 .ensures ∙ ap (low-first 8) (c .from .ensures ∙ c .number-in-Refused .ensures))) (c .write-u64-in-Refused .ensures))
+      (and-number 9 8 _ _ (and-number 1 8 _ _ (first-byte (c .args .out .now) (c .number .result) (omega arith)) (c .write-u64 .ensures ∙ ap (little-endian 8) (c .from .ensures ∙ c .number-in-Refused .ensures))) (c .write-u64-in-Refused .ensures))
       (simp append-nil),
 )
 
@@ -34,9 +32,9 @@ returns-in-At c = (
   c .if-out-lt-ANSWER-BYTES .left,
   wrote (c .args .answer) _ (c .number .result) 25 _ (c .args .out .now) _ (c .in-At .is) (c .number .ensures)
       (and-number 17 8 (c .in-At .step .office) _
-      (and-number 9 8 (kind-number (c .in-At .step .kind)) _ (and-number 1 8 (c .in-At .step .number) _ (first-byte (c .args .out .now) (c .number .result) (omega arith)) (c .write-u64-in-At .ensures)) (c .write-u64-in-At-2 .ensures ∙ ap (low-first 8) (c .from-in-At .ensures ∙ c .number-in-At .ensures)))
-      (c .write-u64-in-At-3 .ensures ∙ ap (low-first 8) (c .from-in-At-2 .ensures)))
-      (three-parts (low-first 8 (c .in-At .step .number)) (low-first 8 (kind-number (c .in-At .step .kind))) (low-first 8 (c .in-At .step .office))),
+      (and-number 9 8 (kind-number (c .in-At .step .kind)) _ (and-number 1 8 (c .in-At .step .number) _ (first-byte (c .args .out .now) (c .number .result) (omega arith)) (c .write-u64-in-At .ensures)) (c .write-u64-in-At-2 .ensures ∙ ap (little-endian 8) (c .from-in-At .ensures ∙ c .number-in-At .ensures)))
+      (c .write-u64-in-At-3 .ensures ∙ ap (little-endian 8) (c .from-in-At-2 .ensures)))
+      (three-parts (little-endian 8 (c .in-At .step .number)) (little-endian 8 (kind-number (c .in-At .step .kind))) (little-endian 8 (c .in-At .step .office))),
 )
 
 pub returns-in-Two : need.returns-in-Two

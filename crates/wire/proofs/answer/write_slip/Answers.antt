@@ -1,7 +1,7 @@
 use mathlib.Core.Path.{ap, _∙_}
 use mathlib.Core.List.{append-assoc, append-nil}
 use native.Mathlib.Omega.{arith}
-use Rattle.wire.specs.Layout.{low-first}
+use Rattle.wire.specs.Layout.{little-endian}
 use Rattle.wire.proofs.Writing.{nothing-yet, and-number, all-filled}
 use Rattle.wire.proofs.answer.write_slip.Needs as need
 
@@ -11,9 +11,9 @@ returns c =
     (and-number 40 8 _ _
     (and-number 32 8 _ _
     (and-number 24 8 _ _
-    (and-number 16 8 _ _ (and-number 8 8 _ _ (and-number 0 8 _ _ (nothing-yet (c .args .part .now)) (c .write-u64 .ensures ∙ ap (low-first 8) (c .from .ensures))) (c .write-u64-2 .ensures)) (c .write-u64-3 .ensures ∙ ap (low-first 8) (c .from-2 .ensures)))
-    (c .write-u64-4 .ensures ∙ ap (low-first 8) (c .from-3 .ensures)))
-    (c .write-u64-5 .ensures ∙ ap (low-first 8) (c .from-4 .ensures)))
-    (c .write-u64-6 .ensures ∙ ap (low-first 8) (c .from-5 .ensures)))
+    (and-number 16 8 _ _ (and-number 8 8 _ _ (and-number 0 8 _ _ (nothing-yet (c .args .part .now)) (c .write-u64 .ensures ∙ ap (little-endian 8) (c .from .ensures))) (c .write-u64-2 .ensures)) (c .write-u64-3 .ensures ∙ ap (little-endian 8) (c .from-2 .ensures)))
+    (c .write-u64-4 .ensures ∙ ap (little-endian 8) (c .from-3 .ensures)))
+    (c .write-u64-5 .ensures ∙ ap (little-endian 8) (c .from-4 .ensures)))
+    (c .write-u64-6 .ensures ∙ ap (little-endian 8) (c .from-5 .ensures)))
     (omega arith)
     ∙ simp (append-assoc, append-nil)

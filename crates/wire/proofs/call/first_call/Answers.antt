@@ -4,16 +4,16 @@ use mathlib.Core.List.{List, [], _∷_, _++_, append-nil}
 use Prim.Native.Nat.{ℕ}
 use native.Mathlib.Omega.{arith}
 use lib.ListN.{length, getD, take, drop}
-use Rattle.wire.specs.Layout.{most-call-bytes, low-first}
+use Rattle.wire.specs.Layout.{most-call-bytes, little-endian}
 use Rattle.wire.proofs.Numbers.{begins, two-parts}
 use Rattle.wire.proofs.call.first_call.Needs as need
 
-one-field : (xs : List ℕ) (t n : ℕ) → length xs ≡ most-call-bytes → getD xs 0 0 ≡ t → take 4 (drop 1 xs) ≡ low-first 4 n → (rest : List ℕ) × (xs ≡ t ∷ ((low-first 4 n ++ []) ++ rest))
-one-field xs t n long first e = begins 4 xs t (omega arith) first (e ∙ sym (append-nil (low-first 4 n)))
+one-field : (xs : List ℕ) (t n : ℕ) → length xs ≡ most-call-bytes → getD xs 0 0 ≡ t → take 4 (drop 1 xs) ≡ little-endian 4 n → (rest : List ℕ) × (xs ≡ t ∷ ((little-endian 4 n ++ []) ++ rest))
+one-field xs t n long first e = begins 4 xs t (omega arith) first (e ∙ sym (append-nil (little-endian 4 n)))
 
-two-fields : (xs : List ℕ) (t m n : ℕ) → length xs ≡ most-call-bytes → getD xs 0 0 ≡ t → take 4 (drop 1 xs) ≡ low-first 4 m → take 4 (drop 5 xs) ≡ low-first 4 n →
-    (rest : List ℕ) × (xs ≡ t ∷ ((low-first 4 m ++ (low-first 4 n ++ [])) ++ rest))
-two-fields xs t m n long first d e = begins 8 xs t (omega arith) first (two-parts 4 4 xs 1 d (e ∙ sym (append-nil (low-first 4 n))))
+two-fields : (xs : List ℕ) (t m n : ℕ) → length xs ≡ most-call-bytes → getD xs 0 0 ≡ t → take 4 (drop 1 xs) ≡ little-endian 4 m → take 4 (drop 5 xs) ≡ little-endian 4 n →
+    (rest : List ℕ) × (xs ≡ t ∷ ((little-endian 4 m ++ (little-endian 4 n ++ [])) ++ rest))
+two-fields xs t m n long first d e = begins 8 xs t (omega arith) first (two-parts 4 4 xs 1 d (e ∙ sym (append-nil (little-endian 4 n))))
 
 pub returns-in-0 : need.returns-in-0
 returns-in-0 c = (search needs, two-fields (c .args .bytes .now) 0 (c .read-u32 .result) (c .read-u32-in-0 .result) (c .pre) (c .in-0 .is) (c .read-u32 .ensures) (c .read-u32-in-0 .ensures))

@@ -15,10 +15,10 @@ ghost-self c =
       (
         c .args .self .now .numbered,
         (
-          goes-on-if (isOk (c .push .result)) n p (c .args .at) (vec-items (c .args .self .now .journal)) (vec-items (c .push .last .self)) (c .read-call-read .result) (c .ask-answer .result) (c .push .ensures .items)
-              (is-there n (c .args .at) _ (c .in-Continue-at-office .ensures tt)) (readable-as (c .args .row .now) (c .read-call-read .result) (c .read-call-read .ensures .value))
+          goes-on-if (isOk (c .push .result)) n p (c .args .at) (vec-items (c .args .self .now .journal)) (vec-items (c .push .last .self)) (c .read-call-reading .result) (c .ask-answer .result) (c .push .ensures .items)
+              (is-there n (c .args .at) _ (c .in-Continue-at-office .ensures tt)) (readable-as (c .args .row .now) (c .read-call-reading .result) (c .read-call-reading .ensures .value))
               (c .slip-is-known .ensures .0 (c .if-not-slip-is-known .left))
-              (answered-as (stage-limits n p) (c .args .at) (c .args .row .now) (c .read-call-read .result) (c .ask-answer .result) (c .read-call-read .ensures .only) (c .ask-answer .ensures)) (c .args .self .now .lived),
+              (answered-as (stage-limits n p) (c .args .at) (c .args .row .now) (c .read-call-reading .result) (c .ask-answer .result) (c .read-call-reading .ensures .only) (c .ask-answer .ensures)) (c .args .self .now .lived),
           tt,
         ),
       ),
@@ -30,13 +30,13 @@ returns c =
     let p : ℕ = c .args .self .now .parcels in
     record {
       value = (
-        c .read-call-read .result,
-        c .read-call-read .ensures .value,
+        c .read-call-reading .result,
+        c .read-call-reading .ensures .value,
         (
           is-there n (c .args .at) _ (c .in-Continue-at-office .ensures tt),
           c .slip-is-known .ensures .0 (c .if-not-slip-is-known .left),
-          right-row (stage-limits n p) _ (c .args .at) (c .read-call-read .result) (c .ask-answer .result) (λ k. refl)
-              (answered-as (stage-limits n p) (c .args .at) (c .args .row .now) (c .read-call-read .result) (c .ask-answer .result) (c .read-call-read .ensures .only) (c .ask-answer .ensures)),
+          right-row (stage-limits n p) _ (c .args .at) (c .read-call-reading .result) (c .ask-answer .result) (λ k. refl)
+              (answered-as (stage-limits n p) (c .args .at) (c .args .row .now) (c .read-call-reading .result) (c .ask-answer .result) (c .read-call-reading .ensures .only) (c .ask-answer .ensures)),
           c .in-Ok .ensures tt .items,
         ),
       );
