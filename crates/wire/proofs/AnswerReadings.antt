@@ -2,7 +2,7 @@
 use mathlib.Core.Path.{_≡_, refl, sym, ap, subst, _∙_}
 use mathlib.Core.Bool.{true}
 use mathlib.Core.List.{List, [], _∷_}
-use Prim.Native.Nat.{ℕ, _*_}
+use Prim.Native.Nat.{ℕ}
 use native.Mathlib.Omega.{arith}
 use lib.ListN.{length, getD, drop}
 use Rattle.std.proofs.shelf.Ways.{tells}
@@ -18,9 +18,9 @@ use Rattle.parcels.specs.declared.Slip.{Slip}
 use Rattle.parcels.specs.declared.Refusal.{Refusal}
 use Rattle.parcels.specs.declared.Answer.{Answer}
 use Rattle.parcels.specs.declared.Answer.the-variants.{Refused, Number, Given, At, NothingHeard, Two}
-use Rattle.wire.specs.Layout.{in-row, answer-bytes}
-use Rattle.wire.specs.Answers.{fits, Reads-answer, Reads-written, Tagged}
-use Rattle.wire.proofs.Values.{same-values, not-as-long}
+use Rattle.wire.specs.Layout.{answer-bytes}
+use Rattle.wire.specs.Answers.{fits, two-fits, two-values, Reads-answer, Reads-written, Reads-part, Tagged}
+use Rattle.wire.proofs.Values.{same-values}
 use Rattle.wire.proofs.Fields.{refusal-small, step-small, slip-small}
 
 -- how many values the answer with this number has
@@ -35,9 +35,14 @@ count-values (At step) = refl
 count-values NothingHeard = refl
 count-values (Two m n) = refl
 
--- a part that is not as long as the values of the answer with this number
-pub not-so-long : (k n : ℕ) (part : List ℕ) (a : Answer) → (length part ≡ n → ⊥) → 8 * value-count k ≡ n → answer-number a ≡ k → part ≡ in-row 8 (answer-values a) → ⊥
-not-so-long k n part a differ is number e = not-as-long part (answer-values a) n differ (ap (λ c. 8 * c) (count-values a ∙ ap value-count number) ∙ is) e
+-- what is not two numbers is no answer of two
+pub no-two : (part : List ℕ) → Reads-part two-fits two-values part None → Tagged 5 part None
+no-two part none (Refused r) number small e = absurd (omega arith)
+no-two part none (Number n) number small e = absurd (omega arith)
+no-two part none (Given s) number small e = absurd (omega arith)
+no-two part none (At s) number small e = absurd (omega arith)
+no-two part none NothingHeard number small e = absurd (omega arith)
+no-two part none (Two m n) number small e = none (m, n) small e
 
 -- an answer's values fit eight bytes each
 answer-small : (a : Answer) → fits a ≡ true → all-below eight-bytes (answer-values a) ≡ true

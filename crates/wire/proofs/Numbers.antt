@@ -4,7 +4,6 @@ use mathlib.Core.List.{List, [], _∷_, _++_}
 use Prim.Native.Nat.{ℕ, _+_, _*_, _/_, _%_, _<_, _≤_}
 use native.Mathlib.Omega.{arith}
 use native.Mathlib.Nat.{div-div-eq-div-mul}
-use lib.Seq.{take-add}
 use lib.ListN.{length, take, drop, getD}
 use Rattle.std.proofs.shelf.Lists.{take-append-drop, drop-drop, drop-more, drop-all}
 use Rattle.std.proofs.shelf.Elements.{all-from-getD}
@@ -52,12 +51,6 @@ pub part : {front rest : List ℕ} (k : ℕ) (xs : List ℕ) (i : ℕ) → take 
 part {front} k xs i e f = sym (take-append-drop k (drop i xs)) ∙ ap (λ a. a ++ drop k (drop i xs)) e ∙ ap (λ b. front ++ b) (drop-drop k i xs ∙ f)
 
 -- a row by its first byte, the part behind that, and the rest
-pub begins : {front : List ℕ} (k : ℕ) (xs : List ℕ) (t : ℕ) → 0 < length xs → getD xs 0 0 ≡ t → take k (drop 1 xs) ≡ front → (rest : List ℕ) × (xs ≡ t ∷ (front ++ rest))
-begins {front} k xs t some first e = (
-  drop (1 + k) xs,
-  drop-more xs 0 0 some ∙ ap (λ (h : ℕ). h ∷ drop 1 xs) first ∙ ap (λ (ys : List ℕ). t ∷ ys) (part k xs 1 e refl),
-)
-
--- two parts side by side are one
-pub two-parts : {a b : List ℕ} (j k : ℕ) (xs : List ℕ) (i : ℕ) → take j (drop i xs) ≡ a → take k (drop (i + j) xs) ≡ b → take (j + k) (drop i xs) ≡ a ++ b
-two-parts {a} j k xs i d e = take-add j k (drop i xs) ∙ ap (λ (ys : List ℕ). ys ++ take k (drop j (drop i xs))) d ∙ ap (λ (ys : List ℕ). a ++ ys) (ap (take k) (drop-drop j i xs) ∙ e)
+pub begins : {front : List ℕ} (k : ℕ) (xs : List ℕ) (t : ℕ) → 0 < length xs → getD xs 0 0 ≡ t → take k (drop 1 xs) ≡ front → xs ≡ t ∷ (front ++ drop (1 + k) xs)
+begins {front} k xs t some first e =
+    drop-more xs 0 0 some ∙ ap (λ (h : ℕ). h ∷ drop 1 xs) first ∙ ap (λ (ys : List ℕ). t ∷ ys) (part k xs 1 e refl)

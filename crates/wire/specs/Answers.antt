@@ -70,6 +70,19 @@ abbrev pub Reads-part : {X : Type 0} → (X → Bool) → (X → List ℕ) → L
 Reads-part can values part (Some x) = (can x ≡ true) × (part ≡ in-row 8 (values x))
 Reads-part {X} can values part None = (x : X) → can x ≡ true → part ≡ in-row 8 (values x) → ⊥
 
+-- one number and two, where eight bytes can carry each
+abbrev pub one-fits : ℕ → Bool
+one-fits n = ltb n eight-bytes
+
+abbrev pub one-values : ℕ → List ℕ
+one-values n = n ∷ []
+
+abbrev pub two-fits : ℕ × ℕ → Bool
+two-fits p = ltb (p .0) eight-bytes && ltb (p .1) eight-bytes
+
+abbrev pub two-values : ℕ × ℕ → List ℕ
+two-values p = p .0 ∷ (p .1 ∷ [])
+
 -- the answer with this first byte, its tag, by the body behind it
 abbrev pub Tagged : ℕ → List ℕ → Option Answer → Type 0
 Tagged tag body (Some a) = (answer-number a ≡ tag) × (fits a ≡ true) × (body ≡ in-row 8 (answer-values a))

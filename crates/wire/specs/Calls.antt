@@ -2,14 +2,14 @@
 use mathlib.Core.Path.{_≡_}
 use mathlib.Core.Bool.{true, false, _&&_}
 use mathlib.Core.List.{List, _++_}
-use Prim.Native.Nat.{ℕ, _<_, _≤_}
+use Prim.Native.Nat.{ℕ, suc, _*_, _<_, _≤_}
 use lib.Dec.{leb}
-use lib.ListN.{length, getD, take}
+use lib.ListN.{length, getD, take, drop}
 use Rattle.std.specs.declared.option.Option.{Option}
 use Rattle.std.specs.declared.option.Option.the-variants.{Some, None}
 use Rattle.std.specs.declared.result.Result.{Result}
 use Rattle.std.specs.declared.result.Result.the-variants.{Ok, Err}
-use Rattle.parcels.specs.Numbers.{call-number}
+use Rattle.parcels.specs.Numbers.{call-number, call-values}
 use Rattle.parcels.specs.declared.Call.{Call}
 use Rattle.wire.specs.Layout.{most-call-bytes, readable, call-bytes, Written}
 
@@ -54,5 +54,5 @@ Writes c before after None = ((readable c && leb most-call-bytes (length before)
 
 -- the call with which bytes start; none, where their first byte is no call's
 abbrev pub Starts-with : List ℕ → Option Call → Type 0
-Starts-with bytes (Some c) = (readable c ≡ true) × ((rest : List ℕ) × (bytes ≡ call-bytes c ++ rest))
+Starts-with bytes (Some c) = (readable c ≡ true) × (bytes ≡ call-bytes c ++ drop (suc (4 * length (call-values c))) bytes)
 Starts-with bytes None = (c : Call) → call-number c ≡ getD bytes 0 0 → ⊥

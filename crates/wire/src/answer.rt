@@ -4,7 +4,7 @@ ghost use Prim.Native.Nat.{_≤_};
 ghost use lib.ListN.{length};
 ghost use Rattle.parcels.specs.Numbers.{slip-values, step-values, refusal-values};
 ghost use Rattle.wire.specs.Layout.{in-row};
-ghost use Rattle.wire.specs.Answers.{refusal-fits, slip-fits, step-fits, Holds, Reads-part, Tagged, Reads-answer, Reads-written, Only-reading, Writes-answer};
+ghost use Rattle.wire.specs.Answers.{refusal-fits, slip-fits, step-fits, one-fits, one-values, two-fits, two-values, Holds, Reads-part, Tagged, Reads-answer, Reads-written, Only-reading, Writes-answer};
 use crate::number::FIELD_END;
 use crate::number::read_u64;
 use crate::number::write_u64;
@@ -79,22 +79,35 @@ fn read_step(body: &[u8]) -> Option<Step>
     })
 }
 
+// The number that the body of an answer is.
+fn read_one(body: &[u8]) -> Option<u64>
+    ensures { λ r. ⌜ Reads-part one-fits one-values (now (body .entry)) r ⌝ }
+{
+    let numbers = read_numbers::<1>(body)?;
+    Some(numbers[0])
+}
+
+// The two numbers that the body of an answer is.
+fn read_two(body: &[u8]) -> Option<(u64, u64)>
+    ensures { λ r. ⌜ Reads-part two-fits two-values (now (body .entry)) r ⌝ }
+{
+    let numbers = read_numbers::<2>(body)?;
+    Some((numbers[0], numbers[1]))
+}
+
 // The answer with this first byte, its tag, by the body behind it.
 fn read_tagged(tag: u8, body: &[u8]) -> Option<Answer>
     ensures { λ r. ⌜ Tagged tag (now (body .entry)) r ⌝ }
 {
     match tag {
         0 => Some(Answer::Refused(read_refusal(body)?)),
-        1 => {
-            let one = read_numbers::<1>(body)?;
-            Some(Answer::Number(one[0]))
-        }
+        1 => Some(Answer::Number(read_one(body)?)),
         2 => Some(Answer::Given(read_slip(body)?)),
         3 => Some(Answer::At(read_step(body)?)),
         4 if body.is_empty() => Some(Answer::NothingHeard),
         5 => {
-            let two = read_numbers::<2>(body)?;
-            Some(Answer::Two(two[0], two[1]))
+            let (m, n) = read_two(body)?;
+            Some(Answer::Two(m, n))
         }
         _ => None,
     }

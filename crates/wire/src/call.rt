@@ -1,10 +1,10 @@
 // Calls as bytes.
 ghost use mathlib.Core.Path.{_≡_};
 ghost use mathlib.Core.Bool.{true};
-ghost use Prim.Native.Nat.{_<_};
+ghost use Prim.Native.Nat.{suc, _*_, _<_, min};
 ghost use lib.ListN.{length, take};
-ghost use Rattle.parcels.specs.Numbers.{four-bytes, all-below, slip-values};
-ghost use Rattle.wire.specs.Layout.{most-call-bytes, in-row, readable, call-bytes};
+ghost use Rattle.parcels.specs.Numbers.{four-bytes, all-below, slip-values, call-values};
+ghost use Rattle.wire.specs.Layout.{most-call-bytes, in-row, readable};
 ghost use Rattle.wire.specs.Calls.{Starts-with, Reads, Reads-written, Only-reading, Writes};
 use crate::number::FIELD_END;
 use crate::number::read_u32;
@@ -72,7 +72,7 @@ fn first_call(bytes: &[u8]) -> Option<Call>
 
 // How many bytes a call has.
 fn call_len(call: Call) -> usize
-    ensures { λ r. ⌜ r ≡ length (call-bytes call) ⌝ }
+    ensures { λ r. ⌜ r ≡ suc (4 * length (call-values call)) ⌝ }
 {
     match call {
         Call::Accept { .. } => 9,
@@ -85,6 +85,13 @@ fn call_len(call: Call) -> usize
         Call::Here { .. } => 5,
         Call::Sums => 1,
     }
+}
+
+// How many bytes at the front of a row a call with so many bytes can have.
+fn fitting(row: &[u8], len: usize) -> usize
+    ensures { λ r. ⌜ r ≡ min (length (now (row .entry))) len ⌝ }
+{
+    row.len().min(len)
 }
 
 // The front of a row, as long as the longest call, with zeros where the row is shorter.
@@ -110,7 +117,7 @@ pub fn read_call(row: &[u8]) -> Result<Call, u64>
     };
     let len = call_len(call);
     if row.len() != len {
-        return Err(row.len().min(len) as u64);
+        return Err(fitting(row, len) as u64);
     }
     Ok(call)
 }

@@ -8,6 +8,7 @@ use Rattle.parcels.specs.Numbers.{call-number, call-values}
 use Rattle.parcels.specs.declared.Call.{Call}
 use Rattle.wire.specs.Layout.{in-row, little-endian, call-bytes, Written}
 use Rattle.wire.proofs.Writing.{first-byte, and-number, written-as}
+use Rattle.wire.proofs.CallReadings.{call-length}
 use Rattle.wire.proofs.call.write_call.Needs as need
 
 two-fields : (call d : Call) (b m n len : ℕ) (out ys zs : List ℕ) → call ≡ d → b ≡ call-number call → call-values d ≡ m ∷ (n ∷ []) → 0 < length out → ys ≡ little-endian 4 m → zs ≡ little-endian 4 n → len ≡ length (call-bytes call) →
@@ -24,7 +25,7 @@ returns-in-Accept c = (
   sym (c .is-readable .ensures) ∙ c .if-not-is-readable .left,
   c .if-out-lt-MAX-CALL-BYTES .left,
   two-fields (c .args .call) _ (c .number .result) _ _ (c .call-len-len .result) (c .args .out .now) _ _ (c .in-Accept .is) (c .number .ensures) refl (omega arith) (c .write-u32 .ensures) (c .write-u32-in-Accept .ensures)
-      (c .call-len-len .ensures),
+      (c .call-len-len .ensures ∙ call-length (c .args .call) _ refl),
 )
 
 pub returns-in-Send : need.returns-in-Send
@@ -32,5 +33,5 @@ returns-in-Send c = (
   sym (c .is-readable .ensures) ∙ c .if-not-is-readable .left,
   c .if-out-lt-MAX-CALL-BYTES .left,
   two-fields (c .args .call) _ (c .number .result) _ _ (c .call-len-len .result) (c .args .out .now) _ _ (c .in-Send .is) (c .number .ensures) refl (omega arith) (c .write-u32-in-Send .ensures) (c .write-u32-in-Send-2 .ensures)
-      (c .call-len-len .ensures),
+      (c .call-len-len .ensures ∙ call-length (c .args .call) _ refl),
 )
