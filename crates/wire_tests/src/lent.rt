@@ -1,4 +1,4 @@
-// Bytes that are lent to be written into.
+// Bytes that are lent to be written into, and what is left of them.
 use parcels::Answer;
 use parcels::Call;
 use parcels::Slip;
@@ -8,7 +8,7 @@ use wire::MAX_CALL_BYTES;
 use wire::write_answer;
 use wire::write_call;
 
-// What each lent byte is before anything is written: no row of the tables has it.
+// What each lent byte is before anything is written: a byte of no row in the tables, so that each write shows.
 pub const LENT: u8 = 0xee;
 
 // Checks that the bytes were written from the start on, and that each byte behind them stayed.
