@@ -70,16 +70,19 @@ abbrev pub Reads-part : {X : Type 0} → (X → Bool) → (X → List ℕ) → L
 Reads-part can values part (Some x) = (can x ≡ true) × (part ≡ in-row 8 (values x))
 Reads-part {X} can values part None = (x : X) → can x ≡ true → part ≡ in-row 8 (values x) → ⊥
 
--- one number and two, where eight bytes can carry each
+-- a number that eight bytes can carry
 abbrev pub one-fits : ℕ → Bool
 one-fits n = ltb n eight-bytes
 
+-- the values of an answer that is one number
 abbrev pub one-values : ℕ → List ℕ
 one-values n = n ∷ []
 
+-- two numbers that eight bytes each can carry
 abbrev pub two-fits : ℕ × ℕ → Bool
 two-fits p = ltb (p .0) eight-bytes && ltb (p .1) eight-bytes
 
+-- the values of an answer that is two numbers
 abbrev pub two-values : ℕ × ℕ → List ℕ
 two-values p = p .0 ∷ (p .1 ∷ [])
 

@@ -94,7 +94,7 @@ fn fitting(row: &[u8], len: usize) -> usize
     row.len().min(len)
 }
 
-// The front of a row, as long as the longest call, with zeros where the row is shorter.
+// The front of a row, filled up to the length of the longest call where it is shorter; with what doesn't matter.
 fn padded(row: &[u8]) -> [u8; MAX_CALL_BYTES]
     ensures len { λ r. ⌜ length r ≡ most-call-bytes ⌝ }
     ensures front { λ r. ⌜ take (length (now (row .entry))) r ≡ take most-call-bytes (now (row .entry)) ⌝ }

@@ -7,6 +7,7 @@ ghost use Rattle.wire.specs.Layout.{little-endian};
 // The first number that four bytes can't hold.
 pub const FIELD_END: u64 = 4_294_967_296;
 
+// The number of four bytes: each counts 256 times as much as the one before it.
 fn join_u32(low_first: [u8; 4]) -> u32
     ensures { λ r. ⌜ r ≡ getD «low_first» 0 0 + 256 * (getD «low_first» 1 0 + 256 * (getD «low_first» 2 0 + 256 * getD «low_first» 3 0)) ⌝ }
 {
