@@ -1,4 +1,6 @@
 // Answers and steps as text.
+#![tactic(auto)]
+
 ghost use Rattle.std.specs.Prelude.{Some};
 ghost use Rattle.answers.specs.Texts.{kind_text, located_text, answer_text};
 

@@ -1,5 +1,7 @@
 // Prints the report of each world file that it is given, with its bad line, and ends with status 0. So files at
 // which `play` ends with status 1 are run, and what is said of them is compared.
+#![tactic(auto)]
+
 use player::{BUDGET, End, play};
 use std::{env, fs};
 

@@ -1,4 +1,6 @@
 // An office's book: what it has of each parcel by its own calls, in memory that the caller lends.
+#![tactic(auto)]
+
 ghost use Rattle.std.specs.Prelude.{◌≡◌, ◌≤◌, length};
 ghost use Rattle.parcels.specs.Book.{accepted};
 ghost use Rattle.rows.specs.Layout.{words_for, head_at, book_of};

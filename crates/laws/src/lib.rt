@@ -1,5 +1,7 @@
 // Theorems about books and calls on them. Each function does nothing: its contract is the theorem, and its
 // proof is what the check asks for.
+#![tactic(auto)]
+
 ghost use Rattle.parcels.specs.Laws.{BookLaws, SlipOnce, TurnedAway};
 
 // Looking up gives what was put in last.

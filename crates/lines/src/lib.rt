@@ -1,4 +1,6 @@
 // Lines of a world file, which says what happens at a post's offices.
+#![tactic(auto)]
+
 mod fault;
 mod reader;
 

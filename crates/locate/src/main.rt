@@ -1,4 +1,6 @@
 // Plays the world files that it is given, and prints where each parcel is.
+#![tactic(auto)]
+
 use player::Program;
 
 fn main(rt: HostRuntime) -> anyhow::Result<()> {

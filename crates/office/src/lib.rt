@@ -1,4 +1,6 @@
 // One office: opened with limits, it answers calls that come as bytes. In this stage it can do none of them.
+#![tactic(auto)]
+
 ghost use Rattle.std.specs.Prelude.{◌≡◌};
 ghost use Rattle.parcels.specs.Book.{Book};
 ghost use Rattle.parcels.specs.Calls.{answered};

@@ -1,4 +1,6 @@
 // What clerks enter at an office and what it answers, as types. What each call does stands in specs/.
+#![tactic(auto)]
+
 ghost use Rattle.std.specs.Prelude.{◌≡◌};
 ghost use Rattle.parcels.specs.Numbers.{call_number, kind_number, reason_number, answer_number, ByNumber};
 

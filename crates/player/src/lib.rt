@@ -1,4 +1,6 @@
 // Plays a world file: reads its lines, lets happen what they say, and shows the answers.
+#![tactic(auto)]
+
 mod happen;
 mod program;
 mod report;

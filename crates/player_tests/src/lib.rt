@@ -1,4 +1,6 @@
 // Whole world files: what is shown of each, and how it ends.
+#![tactic(auto)]
+
 #[cfg(test)]
 mod budgets;
 #[cfg(test)]

@@ -1,4 +1,6 @@
 // An office's memory as rows of words: the only place that knows which word means what.
+#![tactic(auto)]
+
 ghost use Rattle.std.specs.Prelude.{◌≡◌, ℕ, ◌+◌, ◌*◌, ◌<◌, ◌≤◌, length};
 ghost use Rattle.parcels.specs.Numbers.{words_a_parcel, words_more};
 ghost use Rattle.rows.specs.Layout.{words_for, kind_marked, paid_marked, marks_of, entry_words, entry_at, link_word, link_at, head_at, EntryWritten, LinkWritten, HeadWritten};

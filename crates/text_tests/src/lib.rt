@@ -1,4 +1,6 @@
 // What each form of line is read as, how each bad line is refused, and how answers are written.
+#![tactic(auto)]
+
 #[cfg(test)]
 mod answers;
 #[cfg(test)]

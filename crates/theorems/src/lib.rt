@@ -1,5 +1,7 @@
 // What is promised, for the office that runs, over everything that can happen at all offices. Each function
 // does nothing: its contract is the theorem, and its proof is what the check asks for.
+#![tactic(auto)]
+
 ghost use Rattle.parcels.specs.Calls.{nothing};
 ghost use Rattle.promises.specs.Promise.{Right, RefusalKeeps, NewsComes, StaysSmall, NeverBack, OldLetters};
 ghost use Rattle.world.specs.Ours.{ours};

@@ -1,4 +1,6 @@
 // Calls and answers beside their bytes, which are written out by hand, and rows of bytes that are neither.
+#![tactic(auto)]
+
 #[cfg(test)]
 mod answers;
 #[cfg(test)]

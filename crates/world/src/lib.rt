@@ -1,4 +1,6 @@
 // The world of offices and lines: what can happen happens here, one thing at a time, and each call is answered right.
+#![tactic(auto)]
+
 ghost use Rattle.std.specs.Prelude.{◌≡◌, ℕ, ◌<◌, true, vec_len, slice_index_or};
 ghost use Rattle.office.specs.Opening.{stage_limits, in_range};
 ghost use Rattle.office.specs.declared.Office.{Office};
