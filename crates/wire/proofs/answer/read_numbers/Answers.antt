@@ -26,9 +26,9 @@ loop-i-preserved g c =
     let ns : List ℕ = c.loop-i.numbers in
     let i : ℕ = c.loop-i.i in
     let h : i < length ns = omega arith in (
-      length-set ns i c.read-u64.result ∙ c.loop-i.invariant.0,
-      more_fit ns i c.read-u64.result h c.read-u64.type-inv c.loop-i.invariant.1,
-      more_read c.args.part.now ns i c.read-u64.result h c.loop-i.invariant.2 c.read-u64.ensures,
+      length-set ns i c.read_u64.result ∙ c.loop-i.invariant.0,
+      more_fit ns i c.read_u64.result h c.read_u64.type_inv c.loop-i.invariant.1,
+      more_read c.args.part.now ns i c.read_u64.result h c.loop-i.invariant.2 c.read_u64.ensures,
     )
 
 -- at the end all are read

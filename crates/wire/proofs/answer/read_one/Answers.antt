@@ -18,6 +18,6 @@ returns-in-err-numbers c =
 
 pub returns : goal.returns
 returns c =
-    let ns : List ℕ = c.in-ok-numbers.numbers in
-    let (count, small, held) = c.in-ok-numbers.ensures in
+    let ns : List ℕ = c.in_ok-numbers.numbers in
+    let (count, small, held) = c.in_ok-numbers.ensures in
     (below_at eight_bytes ns 0 small (omega arith), held ∙ ap (in_row 8) (next_value ns 0 (omega arith) (drop_all 1 ns (omega arith))))

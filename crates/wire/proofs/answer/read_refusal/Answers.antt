@@ -22,7 +22,7 @@ returns-in-err-reason c =
 
 pub returns : goal.returns
 returns c =
-    let ns : List ℕ = c.in-ok-numbers.numbers in
-    let (count, small, held) = c.in-ok-numbers.ensures in
+    let ns : List ℕ = c.in_ok-numbers.numbers in
+    let (count, small, held) = c.in_ok-numbers.ensures in
     let listed : ns ≡ get_or ns 0 0 ∷ (get_or ns 1 0 ∷ []) = next_value ns 0 (omega arith) (next_value ns 1 (omega arith) (drop_all 2 ns (omega arith))) in
-    (below_at eight_bytes ns 1 small (omega arith), held ∙ ap (in_row 8) (listed ∙ ap (λ n. n ∷ (get_or ns 1 0 ∷ [])) (sym c.in-ok-reason.ensures)))
+    (below_at eight_bytes ns 1 small (omega arith), held ∙ ap (in_row 8) (listed ∙ ap (λ n. n ∷ (get_or ns 1 0 ∷ [])) (sym c.in_ok-reason.ensures)))

@@ -38,8 +38,8 @@ fits_by ns step low = grind (arith, nat_tests)
 pub returns : goal.returns
 unfolding largest
 returns c =
-    let ns : List ℕ = c.in-ok-numbers.numbers in
-    let (count, small, held) = c.in-ok-numbers.ensures in
+    let ns : List ℕ = c.in_ok-numbers.numbers in
+    let (count, small, held) = c.in_ok-numbers.ensures in
     let listed : ns ≡ get_or ns 0 0 ∷ (get_or ns 1 0 ∷ (get_or ns 2 0 ∷ (get_or ns 3 0 ∷ (get_or ns 4 0 ∷ (get_or ns 5 0 ∷ []))))) =
     next_value ns 0 (omega arith) (next_value ns 1 (omega arith) (next_value ns 2 (omega arith) (next_value ns 3 (omega arith) (next_value ns 4 (omega arith) (next_value ns 5 (omega arith) (drop_all 6 ns (omega arith))))))) in
     let low : largest ns < four_bytes = omega arith in

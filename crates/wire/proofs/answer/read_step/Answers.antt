@@ -36,9 +36,9 @@ fits_by n o k number office = grind (arith, nat_tests)
 
 pub returns : goal.returns
 returns c =
-    let ns : List ℕ = c.in-ok-numbers.numbers in
-    let (count, small, held) = c.in-ok-numbers.ensures in
+    let ns : List ℕ = c.in_ok-numbers.numbers in
+    let (count, small, held) = c.in_ok-numbers.ensures in
     let listed : ns ≡ get_or ns 0 0 ∷ (get_or ns 1 0 ∷ (get_or ns 2 0 ∷ [])) = next_value ns 0 (omega arith) (next_value ns 1 (omega arith) (next_value ns 2 (omega arith) (drop_all 3 ns (omega arith)))) in (
-      fits_by (get_or ns 0 0) (get_or ns 2 0) c.in-ok-kind.kind (below_at eight_bytes ns 0 small (omega arith)) c.if-office-ge-FIELD-END.false,
-      held ∙ ap (in_row 8) (listed ∙ ap (λ k. get_or ns 0 0 ∷ (k ∷ (get_or ns 2 0 ∷ []))) (sym c.in-ok-kind.ensures)),
+      fits_by (get_or ns 0 0) (get_or ns 2 0) c.in_ok-kind.kind (below_at eight_bytes ns 0 small (omega arith)) c.if-office-ge-FIELD_END.false,
+      held ∙ ap (in_row 8) (listed ∙ ap (λ k. get_or ns 0 0 ∷ (k ∷ (get_or ns 2 0 ∷ []))) (sym c.in_ok-kind.ensures)),
     )

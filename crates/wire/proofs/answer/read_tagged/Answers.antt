@@ -6,7 +6,7 @@ use Rattle.wire.proofs.AnswerReadings.{no_two}
 use Rattle.wire.proofs.answer.read_tagged.Goals as goal
 
 pub returns-in-4 : goal.returns-in-4
-returns-in-4 c = (sym c.in-4.is, refl, nil_from_length c.args.body.now (true-eqb (length c.args.body.now) 0 c.if-is-empty.ensures))
+returns-in-4 c = (sym c.in-4.is, refl, nil_from_length c.args.body.now (true-eqb (length c.args.body.now) 0 c.if-is_empty.ensures))
 
 pub returns-in-err-m : goal.returns-in-err-m
 returns-in-err-m c =

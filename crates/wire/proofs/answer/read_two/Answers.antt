@@ -19,6 +19,6 @@ returns-in-err-numbers c =
 
 pub returns : goal.returns
 returns c =
-    let ns : List ℕ = c.in-ok-numbers.numbers in
-    let (count, small, held) = c.in-ok-numbers.ensures in
+    let ns : List ℕ = c.in_ok-numbers.numbers in
+    let (count, small, held) = c.in_ok-numbers.ensures in
     (and_from _ _ (below_at eight_bytes ns 0 small (omega arith)) (below_at eight_bytes ns 1 small (omega arith)), held ∙ ap (in_row 8) (next_value ns 0 (omega arith) (next_value ns 1 (omega arith) (drop_all 2 ns (omega arith)))))

@@ -16,28 +16,28 @@ three_parts xs ys zs = append_assoc xs ys zs ∙ ap (λ rest. xs ++ (ys ++ rest)
 pub returns-in-Refused : goal.returns-in-Refused
 returns-in-Refused c = (
   search rules,
-  c.if-out-lt-ANSWER-BYTES.false,
+  c.if-out-lt-ANSWER_BYTES.false,
   wrote c.args.answer _ c.number.result 17 _ c.args.out.now _ c.in-Refused.is c.number.ensures
-      (and_number 9 8 _ _ (and_number 1 8 _ _ (first_byte c.args.out.now c.number.result (omega arith)) (c.write-u64.ensures ∙ ap (little_endian 8) (c.from.ensures ∙ c.number-in-Refused.ensures))) c.write-u64-in-Refused.ensures)
+      (and_number 9 8 _ _ (and_number 1 8 _ _ (first_byte c.args.out.now c.number.result (omega arith)) (c.write_u64.ensures ∙ ap (little_endian 8) (c.from.ensures ∙ c.number-in-Refused.ensures))) c.write_u64-in-Refused.ensures)
       (simp append-nil),
 )
 
 pub returns-in-At : goal.returns-in-At
 returns-in-At c = (
   search rules,
-  c.if-out-lt-ANSWER-BYTES.false,
+  c.if-out-lt-ANSWER_BYTES.false,
   wrote c.args.answer _ c.number.result 25 _ c.args.out.now _ c.in-At.is c.number.ensures
       (and_number 17 8 c.in-At.step.office _
-      (and_number 9 8 (kind_number c.in-At.step.kind) _ (and_number 1 8 c.in-At.step.number _ (first_byte c.args.out.now c.number.result (omega arith)) c.write-u64-in-At.ensures) (c.write-u64-in-At-2.ensures ∙ ap (little_endian 8) (c.from-in-At.ensures ∙ c.number-in-At.ensures)))
-      (c.write-u64-in-At-3.ensures ∙ ap (little_endian 8) c.from-in-At-2.ensures))
+      (and_number 9 8 (kind_number c.in-At.step.kind) _ (and_number 1 8 c.in-At.step.number _ (first_byte c.args.out.now c.number.result (omega arith)) c.write_u64-in-At.ensures) (c.write_u64-in-At-2.ensures ∙ ap (little_endian 8) (c.from-in-At.ensures ∙ c.number-in-At.ensures)))
+      (c.write_u64-in-At-3.ensures ∙ ap (little_endian 8) c.from-in-At-2.ensures))
       (three_parts (little_endian 8 c.in-At.step.number) (little_endian 8 (kind_number c.in-At.step.kind)) (little_endian 8 c.in-At.step.office)),
 )
 
 pub returns-in-Two : goal.returns-in-Two
 returns-in-Two c = (
   search rules,
-  c.if-out-lt-ANSWER-BYTES.false,
+  c.if-out-lt-ANSWER_BYTES.false,
   wrote c.args.answer _ c.number.result 17 _ c.args.out.now _ c.in-Two.is c.number.ensures
-      (and_number 9 8 _ _ (and_number 1 8 _ _ (first_byte c.args.out.now c.number.result (omega arith)) c.write-u64-in-Two.ensures) c.write-u64-in-Two-2.ensures)
+      (and_number 9 8 _ _ (and_number 1 8 _ _ (first_byte c.args.out.now c.number.result (omega arith)) c.write_u64-in-Two.ensures) c.write_u64-in-Two-2.ensures)
       (simp append-nil),
 )

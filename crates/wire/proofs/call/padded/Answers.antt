@@ -28,9 +28,9 @@ pub returns : goal.returns
 returns c =
     let row : List ℕ = c.args.row.now in
     let zeros : List ℕ = replicate 25 0 in
-    let ys : List ℕ = c.copy-from-slice.new.self in
+    let ys : List ℕ = c.copy_from_slice.new.self in
     let n : ℕ = c.min-len.result in
     record {
-      len = long row zeros ys n refl c.min-len.ensures c.copy-from-slice.ensures.after;
-      front = front row zeros ys n refl c.min-len.ensures c.copy-from-slice.ensures.after;
+      len = long row zeros ys n refl c.min-len.ensures c.copy_from_slice.ensures.after;
+      front = front row zeros ys n refl c.min-len.ensures c.copy_from_slice.ensures.after;
     }

@@ -14,14 +14,14 @@ returns-then-row-len c =
     let row : List ℕ = c.args.row.now in
     let k : ℕ = c.fitting.result in
     let value : Reads row (Err k) =
-    cut_or_longer row c.padded.result c.padded.ensures.len c.padded.ensures.front c.in-Some.call _ c.call-len-len.result k c.in-Some.ensures.0
-    c.in-Some.ensures.1 (c.call-len-len.ensures ∙ call_length c.in-Some.call _ refl) c.if-row-len.true c.fitting.ensures in
+    cut_or_longer row c.padded.result c.padded.ensures.len c.padded.ensures.front c.in-Some.call _ c.call_len-len.result k c.in-Some.ensures.0
+    c.in-Some.ensures.1 (c.call_len-len.ensures ∙ call_length c.in-Some.call _ refl) c.if-row-len.true c.fitting.ensures in
     record { value = value; written = reads_written row (Err k) value; only = λ s. one_reading row (Err k) s value }
 
 pub returns : goal.returns
 returns c =
     let row : List ℕ = c.args.row.now in
     let value : Reads row (Ok c.in-Some.call) =
-    a_call row c.padded.result c.padded.ensures.len c.padded.ensures.front c.in-Some.call _ c.call-len-len.result c.in-Some.ensures.0
-    c.in-Some.ensures.1 (c.call-len-len.ensures ∙ call_length c.in-Some.call _ refl) c.if-row-len.false in
+    a_call row c.padded.result c.padded.ensures.len c.padded.ensures.front c.in-Some.call _ c.call_len-len.result c.in-Some.ensures.0
+    c.in-Some.ensures.1 (c.call_len-len.ensures ∙ call_length c.in-Some.call _ refl) c.if-row-len.false in
     record { value = value; written = reads_written row (Ok c.in-Some.call) value; only = λ s. one_reading row (Ok c.in-Some.call) s value }

@@ -18,16 +18,16 @@ two_fields call d b m n len out ys zs e f g some y z is =
 
 pub returns-in-Accept : goal.returns-in-Accept
 returns-in-Accept c = (
-  sym c.is-readable.ensures ∙ c.if-not-is-readable.false,
-  c.if-out-lt-MAX-CALL-BYTES.false,
-  two_fields c.args.call _ c.number.result _ _ c.call-len-len.result c.args.out.now _ _ c.in-Accept.is c.number.ensures refl (omega arith) c.write-u32.ensures c.write-u32-in-Accept.ensures
-      (c.call-len-len.ensures ∙ call_length c.args.call _ refl),
+  sym c.is_readable.ensures ∙ c.if-not-is_readable.false,
+  c.if-out-lt-MAX_CALL_BYTES.false,
+  two_fields c.args.call _ c.number.result _ _ c.call_len-len.result c.args.out.now _ _ c.in-Accept.is c.number.ensures refl (omega arith) c.write_u32.ensures c.write_u32-in-Accept.ensures
+      (c.call_len-len.ensures ∙ call_length c.args.call _ refl),
 )
 
 pub returns-in-Send : goal.returns-in-Send
 returns-in-Send c = (
-  sym c.is-readable.ensures ∙ c.if-not-is-readable.false,
-  c.if-out-lt-MAX-CALL-BYTES.false,
-  two_fields c.args.call _ c.number.result _ _ c.call-len-len.result c.args.out.now _ _ c.in-Send.is c.number.ensures refl (omega arith) c.write-u32-in-Send.ensures c.write-u32-in-Send-2.ensures
-      (c.call-len-len.ensures ∙ call_length c.args.call _ refl),
+  sym c.is_readable.ensures ∙ c.if-not-is_readable.false,
+  c.if-out-lt-MAX_CALL_BYTES.false,
+  two_fields c.args.call _ c.number.result _ _ c.call_len-len.result c.args.out.now _ _ c.in-Send.is c.number.ensures refl (omega arith) c.write_u32-in-Send.ensures c.write_u32-in-Send-2.ensures
+      (c.call_len-len.ensures ∙ call_length c.args.call _ refl),
 )
