@@ -7,7 +7,7 @@ use Rattle.book.specs.declared.tree.Place.TheVariants.{Row, Free}
 use Rattle.book.specs.Search.{place_of, Searchable}
 use Rattle.book.proofs.Search.{seek_free, seek_here, seek_last, seek_on, leads, hangs_below}
 use Rattle.book.proofs.tree.+seek.Goals as goal
-use Rattle.book.proofs.tree.+seek.Goals.{then-height-eq0-via-then-height-eq0, then-height-eq0-via-else-height-eq0+then-read-key-key}
+use Rattle.book.proofs.tree.+seek.Goals.{then-height-eq0-via-then-height-eq0, then-height-eq0-via-else-height-eq0+then-read_key-key}
 
 module _ (m : List ℕ) (l : Link) (key row : ℕ) (is : row ≡ link_at m l) (some : row ≢ 0) where
   -- the link leads to a row
@@ -45,27 +45,27 @@ module _ (m : List ℕ) (l : Link) (key row : ℕ) (is : row ≡ link_at m l) (s
 
 pub returns-then-row-eq0 : goal.returns-then-row-eq0
 returns-then-row-eq0 t c =
-    sym (ap place_of (seek_free (tree_of c.args.memory.now) c.args.height c.args.link c.args.key (sym c.read-link-row.ensures ∙ c.if-row-eq0.true)))
+    sym (ap place_of (seek_free (tree_of c.args.memory.now) c.args.height c.args.link c.args.key (sym c.read_link-row.ensures ∙ c.if-row-eq0.true)))
 
-pub read-key-requires : goal.read-key-requires
-read-key-requires t c =
-    row_room c.args.memory.now c.args.link c.args.key c.read-link-row.result c.read-link-row.ensures c.if-row-eq0.false c.args.height c.requires
+pub read_key-requires : goal.read_key-requires
+read_key-requires t c =
+    row_room c.args.memory.now c.args.link c.args.key c.read_link-row.result c.read_link-row.ensures c.if-row-eq0.false c.args.height c.requires
 
 pub returns-then-height-eq0 : goal.returns-then-height-eq0
 returns-then-height-eq0 t c =
     elim c.then-height-eq0.branch [
       | then-height-eq0-via-then-height-eq0 w ↦
-          last c.args.memory.now c.args.link c.args.key c.read-link-row.result c.read-link-row.ensures c.if-row-eq0.false c.args.height w.if-height-eq0.true
-      | then-height-eq0-via-else-height-eq0+then-read-key-key w ↦
-          here c.args.memory.now c.args.link c.args.key c.read-link-row.result c.read-link-row.ensures c.if-row-eq0.false c.args.height
-          w.read-key.result w.read-key.ensures w.if-read-key-key.true
+          last c.args.memory.now c.args.link c.args.key c.read_link-row.result c.read_link-row.ensures c.if-row-eq0.false c.args.height w.if-height-eq0.true
+      | then-height-eq0-via-else-height-eq0+then-read_key-key w ↦
+          here c.args.memory.now c.args.link c.args.key c.read_link-row.result c.read_link-row.ensures c.if-row-eq0.false c.args.height
+          w.read_key.result w.read_key.ensures w.if-read_key-key.true
     ]
 
 pub seek-requires : goal.seek-requires
 seek-requires t c =
     let one : suc (c.args.height - 1) ≡ c.args.height = let h = c.if-height-eq0.false in omega arith in (
       omega arith,
-      below c.args.memory.now c.args.link c.args.key c.read-link-row.result c.read-link-row.ensures c.if-row-eq0.false (c.args.height - 1)
+      below c.args.memory.now c.args.link c.args.key c.read_link-row.result c.read_link-row.ensures c.if-row-eq0.false (c.args.height - 1)
           (subst (λ h. Searchable c.args.memory.now c.args.link c.args.key h) (sym one) c.requires),
     )
 
@@ -73,6 +73,6 @@ pub returns : goal.returns
 returns t c =
     let one : suc (c.args.height - 1) ≡ c.args.height = let h = c.if-height-eq0.false in omega arith in
     c.seek.ensures
-    ∙ on c.args.memory.now c.args.link c.args.key c.read-link-row.result c.read-link-row.ensures c.if-row-eq0.false (c.args.height - 1)
-    c.read-key.result c.read-key.ensures c.if-read-key-key.false
+    ∙ on c.args.memory.now c.args.link c.args.key c.read_link-row.result c.read_link-row.ensures c.if-row-eq0.false (c.args.height - 1)
+    c.read_key.result c.read_key.ensures c.if-read_key-key.false
     ∙ ap (λ h. place_of (seek (tree_of c.args.memory.now) h c.args.link c.args.key)) one

@@ -13,5 +13,5 @@ replies l o bytes before after r a None reads is kept = kept
 
 pub returns : goal.returns
 returns c =
-    replies (office_limits c.args.self.now) c.args.self.now.own c.args.row.now c.args.out.now c.write-answer.new.out c.read-call.result
-    c.answer-answer.result c.write-answer.result c.read-call.ensures.value c.answer-answer.ensures c.write-answer.ensures
+    replies (office_limits c.args.self.now) c.args.self.now.own c.args.row.now c.args.out.now c.write_answer.new.out c.read_call.result
+    c.answer-answer.result c.write_answer.result c.read_call.ensures.value c.answer-answer.ensures c.write_answer.ensures

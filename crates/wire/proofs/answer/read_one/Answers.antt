@@ -11,10 +11,10 @@ use Rattle.wire.proofs.answer.read_one.Goals as goal
 one_small : (n : ℕ) → one_fits n ≡ true → all_below eight_bytes (one_values n) ≡ true
 one_small n fits = grind (arith, nat_tests)
 
-pub returns-in-err-numbers : goal.returns-in-err-numbers
-returns-in-err-numbers c =
-    subst (λ (r : Option ℕ). ReadsPart one_fits one_values c.args.body.now r) (sym c.from-residual.ensures)
-    (wrong_length one_fits one_values one_small 1 (λ x. refl) c.args.body.now c.in-err-numbers.ensures)
+pub returns-in_err-numbers : goal.returns-in_err-numbers
+returns-in_err-numbers c =
+    subst (λ (r : Option ℕ). ReadsPart one_fits one_values c.args.body.now r) (sym c.from_residual.ensures)
+    (wrong_length one_fits one_values one_small 1 (λ x. refl) c.args.body.now c.in_err-numbers.ensures)
 
 pub returns : goal.returns
 returns c =

@@ -8,17 +8,17 @@ use Rattle.wire.proofs.Values.{below_at, next_value}
 use Rattle.wire.proofs.Fields.{refusal_small, wrong_length, held_values}
 use Rattle.wire.proofs.answer.read_refusal.Goals as goal
 
-pub returns-in-err-numbers : goal.returns-in-err-numbers
-returns-in-err-numbers c =
-    subst (λ (r : Option Refusal). ReadsPart refusal_fits refusal_values c.args.body.now r) (sym c.from-residual.ensures)
-    (wrong_length refusal_fits refusal_values refusal_small 2 (λ x. refl) c.args.body.now c.in-err-numbers.ensures)
+pub returns-in_err-numbers : goal.returns-in_err-numbers
+returns-in_err-numbers c =
+    subst (λ (r : Option Refusal). ReadsPart refusal_fits refusal_values c.args.body.now r) (sym c.from_residual.ensures)
+    (wrong_length refusal_fits refusal_values refusal_small 2 (λ x. refl) c.args.body.now c.in_err-numbers.ensures)
 
-pub returns-in-err-reason : goal.returns-in-err-reason
-returns-in-err-reason c =
-    subst (λ (r : Option Refusal). ReadsPart refusal_fits refusal_values c.args.body.now r) (sym c.from-residual-in-err-reason.ensures)
+pub returns-in_err-reason : goal.returns-in_err-reason
+returns-in_err-reason c =
+    subst (λ (r : Option Refusal). ReadsPart refusal_fits refusal_values c.args.body.now r) (sym c.from_residual-in_err-reason.ensures)
     (λ x fits e.
-    let same : c.in-ok-numbers.numbers ≡ refusal_values x = held_values refusal_fits refusal_values refusal_small 2 (λ y. refl) c.args.body.now c.in-ok-numbers.numbers c.in-ok-numbers.ensures x fits e in
-    c.in-err-reason.ensures x.reason (sym (ap (λ vs. get_or vs 0 0) same)))
+    let same : c.in_ok-numbers.numbers ≡ refusal_values x = held_values refusal_fits refusal_values refusal_small 2 (λ y. refl) c.args.body.now c.in_ok-numbers.numbers c.in_ok-numbers.ensures x fits e in
+    c.in_err-reason.ensures x.reason (sym (ap (λ vs. get_or vs 0 0) same)))
 
 pub returns : goal.returns
 returns c =

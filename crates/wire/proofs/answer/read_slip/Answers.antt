@@ -9,10 +9,10 @@ use Rattle.wire.proofs.Values.{below_at, next_value}
 use Rattle.wire.proofs.Fields.{slip_small, wrong_length, held_values}
 use Rattle.wire.proofs.answer.read_slip.Goals as goal
 
-pub returns-in-err-numbers : goal.returns-in-err-numbers
-returns-in-err-numbers c =
-    subst (λ (r : Option Slip). ReadsPart slip_fits slip_values c.args.body.now r) (sym c.from-residual.ensures)
-    (wrong_length slip_fits slip_values slip_small 6 (λ x. refl) c.args.body.now c.in-err-numbers.ensures)
+pub returns-in_err-numbers : goal.returns-in_err-numbers
+returns-in_err-numbers c =
+    subst (λ (r : Option Slip). ReadsPart slip_fits slip_values c.args.body.now r) (sym c.from_residual.ensures)
+    (wrong_length slip_fits slip_values slip_small 6 (λ x. refl) c.args.body.now c.in_err-numbers.ensures)
 
 -- the largest of the numbers that have four bytes
 largest : List ℕ → ℕ
@@ -22,11 +22,11 @@ largest_fits : (s : Slip) → slip_fits s ≡ true → largest (slip_values s) <
 unfolding largest
 largest_fits s fits = grind (arith, nat_tests)
 
-pub returns-then-max-ge-FIELD-END : goal.returns-then-max-ge-FIELD-END
+pub returns-then-max-ge-FIELD_END : goal.returns-then-max-ge-FIELD_END
 unfolding largest
-returns-then-max-ge-FIELD-END c s fits e =
-    let ns : List ℕ = c.in-ok-numbers.numbers in
-    let same : ns ≡ slip_values s = held_values slip_fits slip_values slip_small 6 (λ x. refl) c.args.body.now ns c.in-ok-numbers.ensures s fits e in
+returns-then-max-ge-FIELD_END c s fits e =
+    let ns : List ℕ = c.in_ok-numbers.numbers in
+    let same : ns ≡ slip_values s = held_values slip_fits slip_values slip_small 6 (λ x. refl) c.args.body.now ns c.in_ok-numbers.ensures s fits e in
     let low : largest ns < four_bytes = subst (λ (vs : List ℕ). largest vs < four_bytes) (sym same) (largest_fits s fits) in
     omega arith
 

@@ -10,25 +10,25 @@ use Rattle.wire.proofs.Values.{below_at, next_value}
 use Rattle.wire.proofs.Fields.{step_small, wrong_length, held_values}
 use Rattle.wire.proofs.answer.read_step.Goals as goal
 
-pub returns-in-err-numbers : goal.returns-in-err-numbers
-returns-in-err-numbers c =
-    subst (λ (r : Option Step). ReadsPart step_fits step_values c.args.body.now r) (sym c.from-residual.ensures)
-    (wrong_length step_fits step_values step_small 3 (λ x. refl) c.args.body.now c.in-err-numbers.ensures)
+pub returns-in_err-numbers : goal.returns-in_err-numbers
+returns-in_err-numbers c =
+    subst (λ (r : Option Step). ReadsPart step_fits step_values c.args.body.now r) (sym c.from_residual.ensures)
+    (wrong_length step_fits step_values step_small 3 (λ x. refl) c.args.body.now c.in_err-numbers.ensures)
 
-pub returns-in-err-kind : goal.returns-in-err-kind
-returns-in-err-kind c =
-    subst (λ (r : Option Step). ReadsPart step_fits step_values c.args.body.now r) (sym c.from-residual-in-err-kind.ensures)
+pub returns-in_err-kind : goal.returns-in_err-kind
+returns-in_err-kind c =
+    subst (λ (r : Option Step). ReadsPart step_fits step_values c.args.body.now r) (sym c.from_residual-in_err-kind.ensures)
     (λ x fits e.
-    let same : c.in-ok-numbers.numbers ≡ step_values x = held_values step_fits step_values step_small 3 (λ y. refl) c.args.body.now c.in-ok-numbers.numbers c.in-ok-numbers.ensures x fits e in
-    c.in-err-kind.ensures x.kind (sym (ap (λ vs. get_or vs 1 0) same)))
+    let same : c.in_ok-numbers.numbers ≡ step_values x = held_values step_fits step_values step_small 3 (λ y. refl) c.args.body.now c.in_ok-numbers.numbers c.in_ok-numbers.ensures x fits e in
+    c.in_err-kind.ensures x.kind (sym (ap (λ vs. get_or vs 1 0) same)))
 
 office_fits : (s : Step) → step_fits s ≡ true → s.office < four_bytes
 office_fits s fits = grind (arith, nat_tests)
 
-pub returns-then-office-ge-FIELD-END : goal.returns-then-office-ge-FIELD-END
-returns-then-office-ge-FIELD-END c s fits e =
-    let same : c.in-ok-numbers.numbers ≡ step_values s = held_values step_fits step_values step_small 3 (λ x. refl) c.args.body.now c.in-ok-numbers.numbers c.in-ok-numbers.ensures s fits e in
-    let office : get_or c.in-ok-numbers.numbers 2 0 ≡ s.office = ap (λ vs. get_or vs 2 0) same in
+pub returns-then-office-ge-FIELD_END : goal.returns-then-office-ge-FIELD_END
+returns-then-office-ge-FIELD_END c s fits e =
+    let same : c.in_ok-numbers.numbers ≡ step_values s = held_values step_fits step_values step_small 3 (λ x. refl) c.args.body.now c.in_ok-numbers.numbers c.in_ok-numbers.ensures s fits e in
+    let office : get_or c.in_ok-numbers.numbers 2 0 ≡ s.office = ap (λ vs. get_or vs 2 0) same in
     omega (arith, office_fits s fits)
 
 fits_by : (n o : ℕ) (k : Kind) → ltb n eight_bytes ≡ true → o < four_bytes → step_fits (record { number = n; kind = k; office = o }) ≡ true

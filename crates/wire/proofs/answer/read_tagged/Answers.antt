@@ -8,7 +8,7 @@ use Rattle.wire.proofs.answer.read_tagged.Goals as goal
 pub returns-in-4 : goal.returns-in-4
 returns-in-4 c = (sym c.in-4.is, refl, nil_from_length c.args.body.now (true-eqb (length c.args.body.now) 0 c.if-is_empty.ensures))
 
-pub returns-in-err-m : goal.returns-in-err-m
-returns-in-err-m c =
-    subst (λ (r : Option Answer). Tagged c.args.tag c.args.body.now r) (sym c.from-residual-in-err-m.ensures)
-    (subst (λ (tag : ℕ). Tagged tag c.args.body.now None) (sym c.in-5.is) (no_two c.args.body.now c.in-err-m.ensures))
+pub returns-in_err-m-in-5 : goal.returns-in_err-m-in-5
+returns-in_err-m-in-5 c =
+    subst (λ (r : Option Answer). Tagged c.args.tag c.args.body.now r) (sym c.from_residual-in_err-m-in-5.ensures)
+    (subst (λ (tag : ℕ). Tagged tag c.args.body.now None) (sym c.in-5.is) (no_two c.args.body.now c.in_err-m-in-5.ensures))

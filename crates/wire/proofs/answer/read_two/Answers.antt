@@ -12,10 +12,10 @@ use Rattle.wire.proofs.answer.read_two.Goals as goal
 two_small : (p : ℕ × ℕ) → two_fits p ≡ true → all_below eight_bytes (two_values p) ≡ true
 two_small p fits = grind (arith, nat_tests)
 
-pub returns-in-err-numbers : goal.returns-in-err-numbers
-returns-in-err-numbers c =
-    subst (λ (r : Option (ℕ × ℕ)). ReadsPart two_fits two_values c.args.body.now r) (sym c.from-residual.ensures)
-    (wrong_length two_fits two_values two_small 2 (λ x. refl) c.args.body.now c.in-err-numbers.ensures)
+pub returns-in_err-numbers : goal.returns-in_err-numbers
+returns-in_err-numbers c =
+    subst (λ (r : Option (ℕ × ℕ)). ReadsPart two_fits two_values c.args.body.now r) (sym c.from_residual.ensures)
+    (wrong_length two_fits two_values two_small 2 (λ x. refl) c.args.body.now c.in_err-numbers.ensures)
 
 pub returns : goal.returns
 returns c =

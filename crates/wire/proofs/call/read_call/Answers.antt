@@ -3,10 +3,10 @@ use Rattle.wire.specs.Calls.{Reads}
 use Rattle.wire.proofs.CallReadings.{call_length, a_call, cut_or_longer, no_number, one_reading, reads_written}
 use Rattle.wire.proofs.call.read_call.Goals as goal
 
-pub returns-in-default : goal.returns-in-default
-returns-in-default c =
+pub returns-in_default : goal.returns-in_default
+returns-in_default c =
     let row : List ℕ = c.args.row.now in
-    let value : Reads row (Err 0) = no_number row c.padded.result c.padded.ensures.len c.padded.ensures.front c.in-default.ensures in
+    let value : Reads row (Err 0) = no_number row c.padded.result c.padded.ensures.len c.padded.ensures.front c.in_default.ensures in
     record { value = value; written = reads_written row (Err 0) value; only = λ s. one_reading row (Err 0) s value }
 
 pub returns-then-row-len : goal.returns-then-row-len

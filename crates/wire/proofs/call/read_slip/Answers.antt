@@ -9,5 +9,5 @@ returns c =
     let bs : List ℕ = c.args.part.now in
     record {
       fits = search rules;
-      bytes = part 4 bs 0 c.read_u32.ensures (part 4 bs 4 (c.read_u32-2.ensures ∙ ap (little_endian 4) (sym c.from.ensures)) (part 4 bs 8 c.read_u32-3.ensures (part 4 bs 12 c.read-u32-4.ensures (part 4 bs 16 c.read-u32-5.ensures (part 4 bs 20 c.read-u32-6.ensures (drop_all 24 bs (omega arith)))))));
+      bytes = part 4 bs 0 c.read_u32.ensures (part 4 bs 4 (c.read_u32-2.ensures ∙ ap (little_endian 4) (sym c.from.ensures)) (part 4 bs 8 c.read_u32-3.ensures (part 4 bs 12 c.read_u32-4.ensures (part 4 bs 16 c.read_u32-5.ensures (part 4 bs 20 c.read_u32-6.ensures (drop_all 24 bs (omega arith)))))));
     }

@@ -5,7 +5,7 @@ use Rattle.wire.proofs.number.read_u64.Goals as goal
 pub returns : goal.returns
 returns c =
     let bs : List ℕ = c.args.part.now in
-    held 8 bs c.from_le_bytes.result c.requires (λ i. omega (arith, c.type-inv.part i))
+    held 8 bs c.from_le_bytes.result c.requires (λ i. omega (arith, c.type_inv.part i))
     (omega (
       arith,
       value_from bs 0 (omega arith),

@@ -8,8 +8,8 @@ use Rattle.world.specs.View.{limits_of}
 use Rattle.world.proofs.Asking.{any_limits, reply, within, read_back}
 use Rattle.world.proofs.World.ask.Goals as goal
 
-pub slice-bounds-read-answer-end : goal.slice-bounds-read-answer-end
-slice-bounds-read-answer-end c =
+pub slice_bounds-read_answer-end : goal.slice_bounds-read_answer-end
+slice_bounds-read_answer-end c =
     let x : Office = c.index.result.now in
     let a : Answered (office_limits x) x.own c.args.row.now (replicate 64 0) c.call.new.out c.unwrap-len.result =
     reply (office_limits x) x.own c.args.row.now (replicate 64 0) c.call.new.out c.call.result c.unwrap-len.result c.call.ensures c.unwrap-len.ensures in
@@ -20,14 +20,14 @@ unwrap-requires c =
     let x : Office = c.index.result.now in
     let a : Answered (office_limits x) x.own c.args.row.now (replicate 64 0) c.call.new.out c.unwrap-len.result =
     reply (office_limits x) x.own c.args.row.now (replicate 64 0) c.call.new.out c.call.result c.unwrap-len.result c.call.ensures c.unwrap-len.ensures in
-    ap is_some (read_back (office_limits x) x.own c.args.row.now (replicate 64 0) c.call.new.out c.unwrap-len.result a c.read-answer.result c.read-answer.ensures.only)
+    ap is_some (read_back (office_limits x) x.own c.args.row.now (replicate 64 0) c.call.new.out c.unwrap-len.result a c.read_answer.result c.read_answer.ensures.only)
 
 pub returns : goal.returns
 returns c =
     let x : Office = c.index.result.now in
     let a : Answered (office_limits x) x.own c.args.row.now (replicate 64 0) c.call.new.out c.unwrap-len.result =
     reply (office_limits x) x.own c.args.row.now (replicate 64 0) c.call.new.out c.call.result c.unwrap-len.result c.call.ensures c.unwrap-len.ensures in
-    let read : c.read-answer.result ≡ Some a.answer = read_back (office_limits x) x.own c.args.row.now (replicate 64 0) c.call.new.out c.unwrap-len.result a c.read-answer.result c.read-answer.ensures.only in
+    let read : c.read_answer.result ≡ Some a.answer = read_back (office_limits x) x.own c.args.row.now (replicate 64 0) c.call.new.out c.unwrap-len.result a c.read_answer.result c.read_answer.ensures.only in
     let same : a.answer ≡ c.unwrap.result = cc (read, c.unwrap.ensures) in
     let is : Answers (limits_of c.args.self.now) c.args.at a.reading a.answer =
     any_limits x.offices (vec_len c.args.self.now.offices) x.parcels c.args.self.now.parcels x.own c.args.at a.reading a.answer a.is in

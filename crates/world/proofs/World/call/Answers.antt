@@ -4,8 +4,8 @@ use Rattle.world.specs.View.{limits_of, journal_of}
 use Rattle.world.proofs.Asking.{within, front, handed_as}
 use Rattle.world.proofs.World.call.Goals as goal
 
-pub slice-bounds-bytes-end : goal.slice-bounds-bytes-end
-slice-bounds-bytes-end c = within (call_bytes c.args.call) (replicate 25 0) c.write-call.new.out c.in-Some.len c.in-Some.ensures.2
+pub slice_bounds-bytes-end : goal.slice_bounds-bytes-end
+slice_bounds-bytes-end c = within (call_bytes c.args.call) (replicate 25 0) c.write_call.new.out c.in-Some.len c.in-Some.ensures.2
 
 pub returns : goal.returns
 returns c =
@@ -14,7 +14,7 @@ returns c =
           inr (
             c.in-Some.ensures.0,
             handed_as (limits_of c.args.self.now) (journal_of c.args.self.now) c.args.at c.args.call _ c.bytes.result (journal_of c.bytes.new.self) c.in-Some.ensures.0
-                (front (call_bytes c.args.call) (replicate 25 0) c.write-call.new.out c.in-Some.len c.in-Some.ensures.2) c.bytes.ensures.value,
+                (front (call_bytes c.args.call) (replicate 25 0) c.write_call.new.out c.in-Some.len c.in-Some.ensures.2) c.bytes.ensures.value,
           );
       same = c.bytes.ensures.same;
     }

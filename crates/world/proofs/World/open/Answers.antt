@@ -32,8 +32,8 @@ whole c =
     let all = all_open c.args.offices c.args.parcels c.loop-own.own c.max-own-end.result c.max-own-end.ensures c.loop-own-test.false c.loop-own.auto.own-end c.loop-own.invariant.2 in
     (c.loop-own.invariant.0 ∙ all.0, all.1)
 
-pub invariant-of-result : goal.invariant-of-result
-invariant-of-result c =
+pub invariant_of-result : goal.invariant_of-result
+invariant_of-result c =
     let all : vec_len c.loop-own.opened ≡ c.args.offices = (whole c).0 in (
       rw all (whole c).1,
       (
