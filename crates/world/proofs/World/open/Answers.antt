@@ -19,7 +19,7 @@ pub loop-own-preserved : goal.loop-own-preserved
 loop-own-preserved c = (
   omega (arith, c.in-Ok-push.ensures.len, c.loop-own.invariant.0),
   numbered_more c.args.offices c.args.parcels c.loop-own.own (vec_len c.loop-own.opened) (vec_items c.loop-own.opened) (vec_items c.push.new.self) c.in-Ok.office
-      c.loop-own.invariant.0 c.in-Ok.ensures.1 c.in-Ok-push.ensures.places.0 (λ d. c.in-Ok-push.ensures.places.1 d refl) c.loop-own.invariant.1,
+      c.loop-own.invariant.0 c.in-Ok.ensures.1 c.in-Ok-push.ensures.by_index.0 (λ d. c.in-Ok-push.ensures.by_index.1 d refl) c.loop-own.invariant.1,
   λ _. from_first c.args.offices c.loop-own.own c.args.parcels c.in-Ok.ensures.0,
 )
 
@@ -34,10 +34,4 @@ whole c =
 
 pub invariant_of-result : goal.invariant_of-result
 invariant_of-result c =
-    let all : vec_len c.loop-own.opened ≡ c.args.offices = (whole c).0 in (
-      rw all (whole c).1,
-      (
-        ∣ (λ k d h. rw all (c.loop-own.invariant.1 k d (omega (arith, c.loop-own.invariant.0)))) ∣₁,
-        (begins (vec_len c.loop-own.opened) c.args.parcels (vec_items c.new.result) c.new.ensures.items, tt),
-      ),
-    )
+    let all : vec_len c.loop-own.opened ≡ c.args.offices = (whole c).0 in record { good = rw all (whole c).1; numbered = ∣ (λ k d h. rw all (c.loop-own.invariant.1 k d (omega (arith, c.loop-own.invariant.0)))) ∣₁; lived = begins (vec_len c.loop-own.opened) c.args.parcels (vec_items c.new.result) c.new.ensures.items }
