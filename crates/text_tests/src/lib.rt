@@ -2,10 +2,10 @@
 #![tactic(auto)]
 
 #[cfg(test)]
-mod answers;
+mod answer_texts;
 #[cfg(test)]
 mod bad_lines;
 #[cfg(test)]
-mod lines;
+mod good_lines;
 #[cfg(test)]
 mod shown;

@@ -2,10 +2,9 @@
 use crate::lent::{LENT, check_written};
 use parcels::{Answer, Kind, Reason, Refusal, Slip, Step};
 use std::process::Abort;
-use std::test::Fail;
 use wire::{read_answer, write_answer};
 
-pub fn check_answers(rt: &impl Abort) -> Result<(), Fail> {
+pub fn check_answers(rt: &impl Abort) {
     check_table(
         rt,
         &[
@@ -84,13 +83,13 @@ pub fn check_answers(rt: &impl Abort) -> Result<(), Fail> {
                   \xff\xff\xff\xff\x00\x00\x00\x00",
             ),
         ],
-    )?;
-    check_reasons(rt)?;
-    check_kinds(rt)
+    );
+    check_reasons(rt);
+    check_kinds(rt);
 }
 
 // Each reason by its number, in a refusal whose other bytes stay.
-fn check_reasons(rt: &impl Abort) -> Result<(), Fail> {
+fn check_reasons(rt: &impl Abort) {
     let refused = *b"\x00\
                      \x00\x00\x00\x00\x00\x00\x00\x00\
                      \x01\x02\x03\x04\x05\x06\x07\x08";
@@ -109,13 +108,12 @@ fn check_reasons(rt: &impl Abort) -> Result<(), Fail> {
         let mut bytes = refused;
         bytes[1] = n;
         let answer = Answer::Refused(Refusal { reason, place });
-        check_answer(rt, answer, &bytes).note(format_args!("reason {n}"))?;
+        check_answer(rt, answer, &bytes);
     }
-    Ok(())
 }
 
 // Each kind by its number, in a step whose other bytes stay.
-fn check_kinds(rt: &impl Abort) -> Result<(), Fail> {
+fn check_kinds(rt: &impl Abort) {
     let at = *b"\x03\
                 \x01\x02\x03\x04\x05\x06\x07\x08\
                 \x00\x00\x00\x00\x00\x00\x00\x00\
@@ -133,26 +131,31 @@ fn check_kinds(rt: &impl Abort) -> Result<(), Fail> {
             kind,
             office: 0x0c0b0a09,
         });
-        check_answer(rt, answer, &bytes).note(format_args!("kind {n}"))?;
+        check_answer(rt, answer, &bytes);
     }
-    Ok(())
 }
 
-fn check_table(rt: &impl Abort, table: &[(Answer, &[u8])]) -> Result<(), Fail> {
+fn check_table(rt: &impl Abort, table: &[(Answer, &[u8])]) {
     for (answer, bytes) in table {
-        check_answer(rt, *answer, bytes).note(format_args!("answer {bytes:?}"))?;
+        check_answer(rt, *answer, bytes);
     }
-    Ok(())
 }
 
 // The bytes are read as the answer, and the answer is written as the bytes, where more are lent too.
-fn check_answer(rt: &impl Abort, answer: Answer, bytes: &[u8]) -> Result<(), Fail> {
-    assert!(rt; read_answer(bytes) == Some(answer));
+fn check_answer(rt: &impl Abort, answer: Answer, bytes: &[u8]) {
+    assert!(rt; read_answer(bytes) == Some(answer), "answer {bytes:?}");
     let mut out = [LENT; 64];
-    assert_eq!(rt; write_answer(answer, &mut out), Some(bytes.len()));
+    assert_eq!(rt;
+        write_answer(answer, &mut out),
+        Some(bytes.len()),
+        "answer {bytes:?}"
+    );
     check_written(rt, &out, bytes);
     let mut out = [LENT; 70];
-    assert_eq!(rt; write_answer(answer, &mut out), Some(bytes.len()));
+    assert_eq!(rt;
+        write_answer(answer, &mut out),
+        Some(bytes.len()),
+        "answer {bytes:?}"
+    );
     check_written(rt, &out, bytes);
-    Ok(())
 }

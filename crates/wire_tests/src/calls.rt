@@ -3,10 +3,9 @@
 use crate::lent::{LENT, check_written};
 use parcels::{Call, Slip};
 use std::process::Abort;
-use std::test::Fail;
 use wire::{read_call, write_call};
 
-pub fn check_calls(rt: &impl Abort) -> Result<(), Fail> {
+pub fn check_calls(rt: &impl Abort) {
     check_table(
         rt,
         &[
@@ -75,24 +74,30 @@ pub fn check_calls(rt: &impl Abort) -> Result<(), Fail> {
                   \xff\xff\xff\xff",
             ),
         ],
-    )
+    );
 }
 
-fn check_table(rt: &impl Abort, table: &[(Call, &[u8])]) -> Result<(), Fail> {
+fn check_table(rt: &impl Abort, table: &[(Call, &[u8])]) {
     for (call, bytes) in table {
-        check_call(rt, *call, bytes).note(format_args!("call {bytes:?}"))?;
+        check_call(rt, *call, bytes);
     }
-    Ok(())
 }
 
 // The bytes are read as the call, and the call is written as the bytes, into the fewest that may be lent too.
-fn check_call(rt: &impl Abort, call: Call, bytes: &[u8]) -> Result<(), Fail> {
-    assert!(rt; read_call(bytes) == Ok(call));
+fn check_call(rt: &impl Abort, call: Call, bytes: &[u8]) {
+    assert!(rt; read_call(bytes) == Ok(call), "call {bytes:?}");
     let mut out = [LENT; 64];
-    assert_eq!(rt; write_call(call, &mut out), Some(bytes.len()));
+    assert_eq!(rt;
+        write_call(call, &mut out),
+        Some(bytes.len()),
+        "call {bytes:?}"
+    );
     check_written(rt, &out, bytes);
     let mut out = [LENT; 25];
-    assert_eq!(rt; write_call(call, &mut out), Some(bytes.len()));
+    assert_eq!(rt;
+        write_call(call, &mut out),
+        Some(bytes.len()),
+        "call {bytes:?}"
+    );
     check_written(rt, &out, bytes);
-    Ok(())
 }
