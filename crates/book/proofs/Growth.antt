@@ -1,9 +1,9 @@
 -- A row more: linked where the search for its key ended, it leaves a sound tree sound.
-use Rattle.std.proofs.Common.{◌≡◌, ℕ, zero, suc, ◌+◌, ◌*◌, ◌/◌, ◌%◌, ◌^◌, ◌<◌, ◌≤◌, Bool, true, false, ◌≢◌, ◌⊎◌, sym, refl, ap, ◌∙◌, subst, inl, inr, ⊎_elim, arith}
+use Rattle.std.proofs.Common.{◌≡◌, ℕ, suc, ◌+◌, ◌*◌, ◌/◌, ◌^◌, ◌<◌, ◌≤◌, Bool, true, false, ◌≢◌, ◌⊎◌, sym, refl, ap, ◌∙◌, subst, inl, inr, ⊎_elim, arith}
 use Rattle.std.proofs.lemmas.Bool.{cases_eq, cases_lt}
 use Rattle.parcels.specs.Book.{pick}
 use Rattle.rows.specs.declared.Link.{Link}
-use Rattle.book.specs.Tree.{Tree, root, key_bits, link_below, Spot, at, free, spot_row, spot_height, seek, height, Hangs, Hanging, Linked, Row, Found, SoundTree}
+use Rattle.book.specs.Tree.{Tree, root, key_bits, link_below, Spot, at, free, spot_row, spot_height, seek, height, Hangs, Linked, Found, SoundTree}
 use Rattle.book.proofs.Search.{seek_here, seek_on, Way, stops, ends, goes, leads, whole_way, way_free}
 
 -- the tree before and after: the row behind the last one got the key, an empty link leads to it, and it has no links

@@ -1,3 +1,4 @@
 mod Search
 mod Growth
 mod Lists
+mod Empty

@@ -1,10 +1,10 @@
 -- How a search goes through a sound tree.
-use Rattle.std.proofs.Common.{◌≡◌, ℕ, zero, suc, ◌+◌, ◌*◌, ◌/◌, ◌%◌, ◌^◌, ◌<◌, ◌≤◌, Bool, true, false, eqb, ◌≢◌, ◌⊎◌, sym, refl, ap, ◌∙◌, subst, inl, inr, ⊎_elim, add-one, arith, eq-eqb, ne_eqb}
+use Rattle.std.proofs.Common.{◌≡◌, ℕ, zero, suc, ◌+◌, ◌*◌, ◌/◌, ◌%◌, ◌^◌, ◌<◌, ◌≤◌, eqb, ◌≢◌, sym, refl, ap, ◌∙◌, subst, inl, inr, ⊎_elim, add-one, arith, eq-eqb, ne_eqb}
 use Rattle.std.proofs.lemmas.Nat.{shr-shr}
 use Rattle.std.proofs.lemmas.Bool.{cases_eq}
 use Rattle.parcels.specs.Book.{pick}
 use Rattle.rows.specs.declared.Link.{Link}
-use Rattle.book.specs.Tree.{Tree, root, key_bits, turns_right, link_below, Spot, at, free, spot_row, spot_height, seek, height, Hangs, Hanging, Linked, Row, Found, SoundTree}
+use Rattle.book.specs.Tree.{Tree, root, key_bits, turns_right, link_below, Spot, at, free, seek, height, Hangs, SoundTree}
 
 bit_of : (x : ℕ) → pick (eqb (x % 2) 1) 1 0 ≡ x % 2
 bit_of x = ⊎_elim (λ (e : x % 2 ≡ 1). rw (eq-eqb (x % 2) 1 e) (sym e)) (λ (e : x % 2 ≡ 1 → ⊥). rw (ne_eqb (x % 2) 1 e) (zero_bit e)) (cases_eq (x % 2) 1)

@@ -1,5 +1,5 @@
 -- What opening, looking up and putting in come to.
-use Rattle.std.specs.Prelude.{◌≡◌, ℕ, ◌<◌, ◌≤◌, Bool, true, false, ◌||◌, List, [], length, Some, None, Option, nat_lt, slice_index, slice_index_or}
+use Rattle.std.specs.Prelude.{◌≡◌, ℕ, ◌<◌, ◌≤◌, Bool, false, ◌||◌, List, [], length, Some, None, Option, nat_lt, slice_index, slice_index_or}
 use Rattle.parcels.specs.Book.{pick, Book, has, own, with_own}
 use Rattle.parcels.specs.declared.Entry.{Entry}
 use Rattle.rows.specs.Layout.{row_words, words_for, book_of}

@@ -1,5 +1,5 @@
 -- What an office is opened with, and which of it is in range.
-use Rattle.std.specs.Prelude.{◌≡◌, ℕ, Bool, true, false, ◌&&◌, nat_le, nat_lt}
+use Rattle.std.specs.Prelude.{ℕ, Bool, ◌&&◌, nat_le, nat_lt}
 use Rattle.parcels.specs.Numbers.{fewest_offices, most_offices, most_parcels}
 use Rattle.parcels.specs.declared.Reason.TheVariants.{BadOpening}
 use Rattle.parcels.specs.declared.Refusal.{Refusal}

@@ -2,8 +2,7 @@ use Rattle.std.proofs.Common.{◌≡◌, ℕ, suc, ◌-◌, ◌/◌, ◌^◌, �
 use Rattle.rows.specs.Layout.{words_for, head_at, entry_at, link_at}
 use Rattle.rows.specs.declared.Link.{Link}
 use Rattle.book.specs.Tree.{tree_of, link_below, seek}
-use Rattle.book.specs.declared.tree.Place.{Place}
-use Rattle.book.specs.declared.tree.Place.TheVariants.{Row, Free}
+use Rattle.book.specs.declared.tree.Place.TheVariants.{Row}
 use Rattle.book.specs.Search.{place_of, Searchable}
 use Rattle.book.proofs.Search.{seek_free, seek_here, seek_last, seek_on, leads, hangs_below}
 use Rattle.book.proofs.tree.+seek.Goals as goal

@@ -1,0 +1,40 @@
+-- Memory that was just laid out is sound, and means the empty book.
+use Rattle.std.proofs.Common.{◌≡◌, ℕ, ◌≤◌, [], List, length, map, sym, ap, ◌∙◌, subst, inl, inr, arith}
+use Rattle.std.specs.List.{range_with_len}
+use Rattle.parcels.specs.Book.{accepted}
+use Rattle.rows.specs.Layout.{words_for, head_at, book_of, entry_at, HeadWritten, LinkWritten}
+use Rattle.rows.specs.declared.Head.{Head}
+use Rattle.rows.specs.declared.Link.{Link}
+use Rattle.book.specs.Tree.{Tree, tree_of, root, Hangs, SoundTree}
+use Rattle.book.specs.Keeping.{LaidOut}
+
+-- in a tree without rows only the root hangs, and it leads nowhere
+nowhere : (t : Tree) (h prefix : ℕ) (l : Link) → t.link root ≡ 0 → Hangs t 0 h prefix l → t.link l ≡ 0
+nowhere t h prefix l none (inl (e, _, _)) = ap t.link e ∙ none
+nowhere t h prefix l none (inr (one, low, _, _)) = absurd (omega arith)
+
+pub empty_tree : (t : Tree) → t.link root ≡ 0 → SoundTree t 0
+empty_tree t none =
+    record {
+      linked = λ x. absurd (x.leads (nowhere t x.bits x.prefix x.link none x.hangs));
+      found = λ x. absurd (let low = x.from in let high = x.to in omega arith);
+    }
+
+pub laid_out : (own parcels : ℕ) (m m' m'' : List ℕ) → words_for parcels ≤ length m → length m' ≡ length m → length m'' ≡ length m' →
+    HeadWritten m m' (record { parcels = 0; accepted = 0 }) → LinkWritten m' m'' root 0 → LaidOut own parcels m m''
+unfolding book_of accepted
+laid_out own parcels m m' m'' enough same same' head link =
+    let none : head_at m'' ≡ record { parcels = 0; accepted = 0 } = link.head ∙ head.head in
+    let no_rows : (head_at m'').parcels ≡ 0 = ap (λ (h : Head). h.parcels) none in
+    let empty : book_of m'' ≡ [] = ap (λ n. map (entry_at m'') (range_with_len 1 n)) no_rows in
+    record {
+      enough = enough;
+      sound = record {
+        room = omega (arith, enough, same, same');
+        few = omega (arith, no_rows);
+        counted = ap (λ (h : Head). h.accepted) none ∙ sym (ap (accepted own) empty);
+        tree = subst (SoundTree (tree_of m'')) (sym no_rows) (empty_tree (tree_of m'') link.link);
+      };
+      empty = empty;
+      rest = λ i low. link.rest i (λ a b. omega arith) ∙ head.rest i (λ a b. omega arith);
+    }
