@@ -2,7 +2,12 @@
 #![tactic(auto)]
 
 use player::Program;
+use std::process::ExitCode;
 
-fn main(rt: HostRuntime) -> anyhow::Result<()> {
-    Program::Locate.run(&rt)
+fn main(rt: HostRuntime) -> ExitCode {
+    // what is wrong stands on standard error already
+    match Program::Locate.run(&rt) {
+        Ok(()) => ExitCode::SUCCESS,
+        Err(_) => ExitCode::FAILURE,
+    }
 }

@@ -2,7 +2,12 @@
 #![tactic(auto)]
 
 use player::Program;
+use std::process::ExitCode;
 
-fn main(rt: HostRuntime) -> anyhow::Result<()> {
-    Program::Play.run(&rt)
+fn main(rt: HostRuntime) -> ExitCode {
+    // what is wrong stands on standard error already
+    match Program::Play.run(&rt) {
+        Ok(()) => ExitCode::SUCCESS,
+        Err(_) => ExitCode::FAILURE,
+    }
 }
