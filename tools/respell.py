@@ -3,8 +3,9 @@
 
 usage: python3 tools/respell.py        at the top, once, after the port of the library's names
 
-A name is ours if a file of specs/, or of proofs/ outside the goals' own names, declares it. Code, strings, exported
-names, inputs and outputs stay. It stops, with nothing written, where two names would fall together in one crate.
+A name is ours if a file of specs/, or of proofs/ outside the goals' own names, declares it. It is turned there, in
+the clauses and imports of src/, and between backquotes in README.md and docs/. Code, strings, exported names, inputs
+and outputs stay. It stops, with nothing written, where two names would fall together in one crate.
 """
 
 import collections
@@ -16,11 +17,10 @@ import sys
 FACTS = {"given": "IsGiven", "slip-known": "IsSlipKnown", "row-known": "IsRowKnown"}
 
 # Names that the check makes for goals: they go by the code.
-GOALS = re.compile(r"^(returns|loop|invariant|decreases|slice-bounds|slice_bounds|overflow|nonzero|bounds|offset)\b|-requires")
+GOALS = re.compile(r"^(returns|loop|invariant|invariant_of|decreases|slice-bounds|slice_bounds|overflow|nonzero|bounds|offset)\b|-requires")
 
 WORD = r"[^\W\d][\w'-]*"
 DECLARED = re.compile(rf"(?:^[ \t]*(?:(?:pub|abbrev|unfoldable|record|data)[ \t]+)*|\blet )({WORD})(?:[ \t]+[({{][^:]*:[^:]*[)}}])*[ \t]*:(?=\s)", re.M)
-MODULE = re.compile(r"^(?:pub )?mod\b.*$", re.M)
 
 
 def texts():

@@ -8,10 +8,10 @@ pub const LENT: u8 = 0xee;
 
 // Checks that the bytes were written from the start on, and that each byte behind them stayed.
 pub fn check_written(rt: &impl Abort, out: &[u8], bytes: &[u8]) {
-    assert!(rt; bytes.len() <= out.len());
+    assert!(rt; bytes.len() <= out.len(), "{bytes:?}");
     assert_eq!(rt; &out[0..bytes.len()], bytes);
     for byte in &out[bytes.len()..] {
-        assert_eq!(rt; *byte, LENT);
+        assert_eq!(rt; *byte, LENT, "behind {bytes:?}");
     }
 }
 
