@@ -20,7 +20,7 @@ impl fmt::Display for AnswerText {
                 write!(
                     f,
                     "refused {} at {}",
-                    refusal.reason.number(),
+                    u8::from(refusal.reason),
                     refusal.place
                 )
             }
@@ -37,7 +37,7 @@ impl fmt::Display for AnswerText {
                     f,
                     "step {}, kind {}, office {}",
                     step.number,
-                    step.kind.number(),
+                    u8::from(step.kind),
                     step.office
                 )
             }
@@ -55,13 +55,12 @@ impl fmt::Display for KindText {
     ghost output = { λ x. Some (kind_text x.0) };
 
     fn fmt<W: fmt::Write>(&self, f: &mut fmt::Formatter<W>) -> fmt::Result {
-        let text = match self.0 {
+        f.write_str(match self.0 {
             Kind::Accepted => "accepted",
             Kind::SentOn => "sent on",
             Kind::ComeIn => "come in",
             Kind::HandedOut => "handed out",
-        };
-        write!(f, "{text}")
+        })
     }
 }
 

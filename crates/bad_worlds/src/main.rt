@@ -2,15 +2,15 @@
 // which `play` ends with status 1 are run, and what is said of them is compared.
 #![tactic(auto)]
 
-use player::{BUDGET, End, play};
+use player::{BUDGET, play};
 use std::{env, fs};
 
 fn show(rt: &HostRuntime, path: &str) -> anyhow::Result<()> {
     let file = fs::read(rt, path)?;
     let report = play(rt.alloc(), file.as_slice(), BUDGET);
     print!(rt; "{}", report.shown)?;
-    if let End::Bad { line, trouble } = report.end {
-        println!(rt; "{path}:{line}: {trouble}")?;
+    if let Err(bad) = report.end {
+        println!(rt; "{path}:{bad}")?;
     }
     Ok(())
 }

@@ -1,5 +1,5 @@
 -- Memory that was just laid out is sound, and means the empty book.
-use Rattle.std.proofs.Common.{◌≡◌, ℕ, ◌≤◌, [], List, length, map, sym, ap, ◌∙◌, subst, inl, inr, arith}
+use Rattle.std.proofs.Common.{◌≡◌, ℕ, ◌≤◌, [], List, length, map, sym, ap, ◌∙◌, subst, arith}
 use Rattle.std.specs.List.{range_with_len}
 use Rattle.parcels.specs.Book.{accepted}
 use Rattle.rows.specs.Layout.{words_for, head_at, book_of, entry_at, HeadWritten, LinkWritten}
@@ -10,14 +10,13 @@ use Rattle.book.specs.Keeping.{LaidOut}
 
 -- in a tree without rows only the root hangs, and it leads nowhere
 nowhere : (t : Tree) (h prefix : ℕ) (l : Link) → t.link root ≡ 0 → Hangs t 0 h prefix l → t.link l ≡ 0
-nowhere t h prefix l none (inl (e, _, _)) = ap t.link e ∙ none
-nowhere t h prefix l none (inr (one, low, _, _)) = absurd (omega arith)
+nowhere t h prefix l none hangs = grind arith
 
 pub empty_tree : (t : Tree) → t.link root ≡ 0 → SoundTree t 0
 empty_tree t none =
     record {
       linked = λ x. absurd (x.leads (nowhere t x.bits x.prefix x.link none x.hangs));
-      found = λ x. absurd (let low = x.from in let high = x.to in omega arith);
+      found = λ x. absurd (omega arith);
     }
 
 pub laid_out : (own parcels : ℕ) (m m' m'' : List ℕ) → words_for parcels ≤ length m → length m' ≡ length m → length m'' ≡ length m' →

@@ -1,10 +1,10 @@
 -- A row more: linked where the search for its key ended, it leaves a sound tree sound.
-use Rattle.std.proofs.Common.{◌≡◌, ℕ, suc, ◌+◌, ◌*◌, ◌/◌, ◌^◌, ◌<◌, ◌≤◌, Bool, true, false, ◌≢◌, ◌⊎◌, sym, refl, ap, ◌∙◌, subst, inl, inr, ⊎_elim, arith}
-use Rattle.std.proofs.lemmas.Bool.{cases_eq, cases_lt}
+use Rattle.std.proofs.Common.{◌≡◌, ℕ, suc, ◌+◌, ◌*◌, ◌/◌, ◌^◌, ◌<◌, ◌≤◌, ◌≢◌, ◌⊎◌, sym, ap, ◌∙◌, subst, inl, inr, arith}
+use Rattle.std.proofs.lemmas.Bool.{cases_lt}
 use Rattle.parcels.specs.Book.{pick}
 use Rattle.rows.specs.declared.Link.{Link}
 use Rattle.book.specs.Tree.{Tree, root, key_bits, link_below, Spot, at, free, spot_row, spot_height, seek, height, Hangs, Linked, Found, SoundTree}
-use Rattle.book.proofs.Search.{seek_here, seek_on, Way, stops, ends, goes, leads, whole_way, way_free}
+use Rattle.book.proofs.Search.{seek_here, seek_on, Way, stops, ends, goes, hangs_row, leads, whole_way, way_free}
 
 -- the tree before and after: the row behind the last one got the key, an empty link leads to it, and it has no links
 pub record Grown (t t' : Tree) (n key : ℕ) (end : Link) : Type 0 where
@@ -15,37 +15,16 @@ pub record Grown (t t' : Tree) (n key : ℕ) (end : Link) : Type 0 where
   pub has : t'.key (suc n) ≡ key
   pub below : (l : Link) → l.row ≡ suc n → t'.link l ≡ 0
 
-cases_bits : (s t : Bool) → (s ≡ t) ⊎ (s ≡ t → ⊥)
-cases_bits true true = inl refl
-cases_bits true false = inr (λ e. let z : ◌≡◌ {A = ℕ} 0 1 = cc in omega arith)
-cases_bits false true = inr (λ e. let z : ◌≡◌ {A = ℕ} 0 1 = cc in omega arith)
-cases_bits false false = inl refl
-
 cases_link : (k l : Link) → (k ≡ l) ⊎ (k ≡ l → ⊥)
-cases_link k l =
-    ⊎_elim (λ (r : k.row ≡ l.row).
-    ⊎_elim (λ (b : k.right ≡ l.right). inl (same r b)) (λ (b : k.right ≡ l.right → ⊥). inr (λ e. b (ap (λ (x : Link). x.right) e))) (cases_bits k.right l.right))
-    (λ (r : k.row ≡ l.row → ⊥). inr (λ e. r (ap (λ (x : Link). x.row) e)))
-    (cases_eq k.row l.row)
-  where
-    same : k.row ≡ l.row → k.right ≡ l.right → k ≡ l
-    same r b =
-        let by_fields : ◌≡◌ {A = Link} (record { row = k.row; right = k.right }) (record { row = l.row; right = l.right }) = cc in
-        by_fields
+cases_link k l = grind arith
 
 -- a link hangs in one way
 hangs_once : (t : Tree) (n : ℕ) (l : Link) (h p h' p' : ℕ) → Hangs t n h p l → Hangs t n h' p' l → (h ≡ h') × (p ≡ p')
-hangs_once t n l h p h' p' (inl (_, a, b)) (inl (_, c, d)) = (omega arith, omega arith)
-hangs_once t n l h p h' p' (inl (e, _, _)) (inr (one, _, _, _)) = absurd (let z : l.row ≡ 0 = ap (λ (x : Link). x.row) e in omega arith)
-hangs_once t n l h p h' p' (inr (one, _, _, _)) (inl (e, _, _)) = absurd (let z : l.row ≡ 0 = ap (λ (x : Link). x.row) e in omega arith)
-hangs_once t n l h p h' p' (inr (_, _, a, b)) (inr (_, _, c, d)) =
-    let bits : h ≡ h' = omega arith in
-    (bits, b ∙ ap (λ x. 2 * (t.key l.row / 2 ^ suc x) + pick l.right 1 0) bits ∙ sym d)
+hangs_once t n l h p h' p' x y = grind arith
 
 -- a search that found a row ends at it
 spot_at : (s : Spot) (r : ℕ) → 1 ≤ r → spot_row s ≡ r → s ≡ at r (spot_height s)
-spot_at (at row bits) r one e = ap (λ x. at x bits) e
-spot_at (free link bits) r one e = absurd (omega arith)
+spot_at s r one e = grind arith
 
 pub found_at : (t : Tree) (n : ℕ) → SoundTree t n → (r : ℕ) → 1 ≤ r → r ≤ n → seek t key_bits root (t.key r) ≡ at r (height t r)
 unfolding height
@@ -65,7 +44,7 @@ module _ (t t' : Tree) (n key : ℕ) (end : Link) (left : ℕ) (sound : SoundTre
 
   -- a search that succeeded ends as before
   kept : {k h : ℕ} {l : Link} {s : Spot} (row bits : ℕ) → Way t n k h l s → s ≡ at row bits → seek t' h l k ≡ s
-  kept row bits (stops _ _) e = absurd (let z : ◌≡◌ {A = ℕ} 0 1 = cc in omega arith)
+  kept row bits (stops _ _) e = absurd (cc)
   kept {k} row bits (ends {h} {l} here some low is) e =
       let f : t'.link l ≡ t.link l = same_link l here some in
       let g : t'.key (t.link l) ≡ t.key (t.link l) = grown.keys (t.link l) (omega arith) low in
@@ -79,7 +58,7 @@ module _ (t t' : Tree) (n key : ℕ) (end : Link) (left : ℕ) (sound : SoundTre
       let bits : h ≡ left = cc in
       let f : t'.link l ≡ suc n = ap t'.link link ∙ grown.leads in
       seek_here t' h l key (λ z. omega arith) (ap t'.key f ∙ grown.has) ∙ cc
-  comes (ends _ _ _ _) e = absurd (let z : ◌≡◌ {A = ℕ} 0 1 = cc in omega arith)
+  comes (ends _ _ _ _) e = absurd (cc)
   comes (goes {h} {l} here some low other w) e = goes_on key h l here some low other ∙ comes w e
 
   found_kept : (r : ℕ) → 1 ≤ r → r ≤ n → seek t' key_bits root (t'.key r) ≡ at r (height t r)
@@ -104,10 +83,6 @@ module _ (t t' : Tree) (n key : ℕ) (end : Link) (left : ℕ) (sound : SoundTre
   hangs_back h prefix l low (inl root) = inl root
   hangs_back h prefix l low (inr (one, _, high, is)) =
       inr (one, low, sym (height_kept l.row one low) ∙ high, is ∙ ap (λ k. 2 * (k / 2 ^ suc h) + pick l.right 1 0) (grown.keys l.row one low))
-
-  hangs_up : (h prefix : ℕ) (l : Link) → Hangs t' (suc n) h prefix l → l.row ≤ suc n
-  hangs_up h prefix l (inl (e, _, _)) = rw e (omega arith)
-  hangs_up h prefix l (inr (_, low, _, _)) = low
 
   Leads : (h prefix : ℕ) (l : Link) → Type 0
   Leads h prefix l = (t'.link l ≤ suc n) × (height t' (t'.link l) ≡ h) × (t'.key (t'.link l) / 2 ^ h ≡ prefix)
@@ -135,26 +110,30 @@ module _ (t t' : Tree) (n key : ℕ) (end : Link) (left : ℕ) (sound : SoundTre
   linked : Linked t' (suc n)
   unfolding Leads
   linked x =
-      ⊎_elim (λ (low : x.link.row < suc n).
-      let row : x.link.row ≤ n = omega arith in
-      let hangs : Hangs t n x.bits x.prefix x.link = hangs_back x.bits x.prefix x.link row x.hangs in
-      ⊎_elim (λ (e : x.link ≡ end). leads_new x.bits x.prefix x.link e hangs)
-      (λ (e : x.link ≡ end → ⊥). leads_old x.bits x.prefix x.link row e hangs x.leads) (cases_link x.link end))
-      (λ (high : suc n ≤ x.link.row).
-      let up : x.link.row ≤ suc n = hangs_up x.bits x.prefix x.link x.hangs in
-      absurd (x.leads (grown.below x.link (omega arith))))
-      (cases_lt x.link.row (suc n))
+      elim (cases_lt x.link.row (suc n)) [
+        | inl low ↦
+            let row : x.link.row ≤ n = omega arith in
+            let hangs : Hangs t n x.bits x.prefix x.link = hangs_back x.bits x.prefix x.link row x.hangs in
+            elim (cases_link x.link end) [
+              | inl e ↦ leads_new x.bits x.prefix x.link e hangs
+              | inr e ↦ leads_old x.bits x.prefix x.link row e hangs x.leads
+            ]
+        | inr high ↦
+            let up : x.link.row ≤ suc n = hangs_row t' (suc n) x.bits x.prefix x.link x.hangs in
+            absurd (x.leads (grown.below x.link (omega arith)))
+      ]
 
   found : Found t' (suc n)
   found x =
-      ⊎_elim (λ (low : x.row < suc n).
-      let r : x.row ≤ n = omega arith in
-      let known = sound.found (record { row = x.row; from = x.from; to = r }) in
-      (rw (grown.keys x.row x.from r) known.0, ap spot_row (found_kept x.row x.from r)))
-      (λ (high : suc n ≤ x.row).
-      let last : x.row ≡ suc n = let up = x.to in omega arith in
-      (rw (ap t'.key last ∙ grown.has) small, ap (λ r. spot_row (seek t' key_bits root (t'.key r))) last ∙ ap spot_row found_new ∙ sym last))
-      (cases_lt x.row (suc n))
+      elim (cases_lt x.row (suc n)) [
+        | inl low ↦
+            let r : x.row ≤ n = omega arith in
+            let known = sound.found (record { row = x.row; from = x.from; to = r }) in
+            (rw (grown.keys x.row x.from r) known.0, ap spot_row (found_kept x.row x.from r))
+        | inr high ↦
+            let last : x.row ≡ suc n = omega arith in
+            (rw (last, grown.has) small, rw (last, found_new))
+      ]
 
   pub grown_sound : SoundTree t' (suc n)
   grown_sound = record { linked = linked; found = found }

@@ -1,7 +1,7 @@
 -- Looking up and putting in, in a book whose entries are those of rows.
-use Rattle.std.proofs.Common.{◌≡◌, ℕ, zero, suc, ◌+◌, ◌<◌, ◌≤◌, Bool, true, false, eqb, ◌≢◌, [], ◌∷◌, ◌++◌, map, length, refl, ap, ◌∙◌, ⊎_elim, arith, eq-eqb, ne_eqb}
+use Rattle.std.proofs.Common.{◌≡◌, ℕ, zero, suc, ◌+◌, ◌<◌, ◌≤◌, true, false, eqb, inl, inr, ◌≢◌, [], ◌∷◌, ◌++◌, map, length, refl, ap, ◌∙◌, arith, eq-eqb, ne_eqb}
 use Rattle.std.specs.List.{range_with_len}
-use Rattle.std.proofs.lemmas.Bool.{cases_eq, or_parts}
+use Rattle.std.proofs.lemmas.Bool.{cases_eq}
 use Rattle.parcels.specs.Book.{pick, origin, Book, has, own, with_own, accepted}
 use Rattle.parcels.specs.declared.Entry.{Entry}
 
@@ -27,28 +27,26 @@ only_behind : (f : ℕ → Entry) (a n key row : ℕ) → Only f a (suc n) key r
 only_behind f a n key row x other =
     let later : a ≢ row = λ e. other (ap (λ r. (f r).key) e ∙ x.is) in
     record {
-      from = let low = x.from in omega arith;
-      to = let high = x.to in omega arith;
+      from = omega arith;
+      to = omega arith;
       is = x.is;
       only = λ r low high k. x.only r (omega arith) (omega arith) k;
     }
 
-none_in_none : (f : ℕ → Entry) (a key row : ℕ) → Only f a zero key row → ⊥
-none_in_none f a key row x = let low = x.from in let high = x.to in omega arith
-
 pub present : (f : ℕ → Entry) (a n key row : ℕ) → Only f a n key row → (has (entries f a n) key ≡ true) × (own (entries f a n) key ≡ f row)
 unfolding has own
-present f a zero key row x = absurd (none_in_none f a key row x)
+present f a zero key row x = absurd (omega arith)
 present f a (suc n) key row x =
-    ⊎_elim (λ (e : (f a).key ≡ key).
-    let here : a ≡ row = x.only a (omega arith) (omega arith) e in
-    let t : eqb (f a).key key ≡ true = eq-eqb (f a).key key e in
-    (rw t, rw (t, here)))
-    (λ (e : (f a).key ≡ key → ⊥).
-    let t : eqb (f a).key key ≡ false = ne_eqb (f a).key key e in
-    let (h, o) = present f (a + 1) n key row (only_behind f a n key row x e) in
-    (rw t h, rw t o))
-    (cases_eq (f a).key key)
+    elim (cases_eq (f a).key key) [
+      | inl e ↦
+          let here : a ≡ row = x.only a (omega arith) (omega arith) e in
+          let t : eqb (f a).key key ≡ true = eq-eqb (f a).key key e in
+          (rw t, rw (t, here))
+      | inr e ↦
+          let t : eqb (f a).key key ≡ false = ne_eqb (f a).key key e in
+          let (h, o) = present f (a + 1) n key row (only_behind f a n key row x e) in
+          (rw t h, rw t o)
+    ]
 
 same_entries : (f g : ℕ → Entry) (a n : ℕ) → ((r : ℕ) → a ≤ r → r < a + n → g r ≡ f r) → entries f a n ≡ entries g a n
 same_entries f g a zero same = refl
@@ -61,26 +59,25 @@ same_entries f g a (suc n) same =
 pub replaced : (f g : ℕ → Entry) (a n : ℕ) (e : Entry) (row : ℕ) → Only f a n e.key row → g row ≡ e → ((r : ℕ) → r ≢ row → g r ≡ f r) →
     with_own (entries f a n) e ≡ entries g a n
 unfolding with_own
-replaced f g a zero e row x new same = absurd (none_in_none f a e.key row x)
+replaced f g a zero e row x new same = absurd (omega arith)
 replaced f g a (suc n) e row x new same =
-    ⊎_elim (λ (k : (f a).key ≡ e.key).
-    let here : a ≡ row = x.only a (omega arith) (omega arith) k in
-    let first : g a ≡ e = ap g here ∙ new in
-    let rest : entries f (a + 1) n ≡ entries g (a + 1) n = same_entries f g (a + 1) n (λ r low high. same r (λ z. omega arith)) in
-    rw (eq-eqb (f a).key e.key k) (cc))
-    (λ (k : (f a).key ≡ e.key → ⊥).
-    let first : g a ≡ f a = same a (λ z. k (ap (λ r. (f r).key) z ∙ x.is)) in
-    let rest : with_own (entries f (a + 1) n) e ≡ entries g (a + 1) n = replaced f g (a + 1) n e row (only_behind f a n e.key row x k) new same in
-    rw (ne_eqb (f a).key e.key k) (cc))
-    (cases_eq (f a).key e.key)
+    elim (cases_eq (f a).key e.key) [
+      | inl k ↦
+          let here : a ≡ row = x.only a (omega arith) (omega arith) k in
+          let first : g a ≡ e = ap g here ∙ new in
+          let rest : entries f (a + 1) n ≡ entries g (a + 1) n = same_entries f g (a + 1) n (λ r low high. same r (λ z. omega arith)) in
+          rw (eq-eqb (f a).key e.key k) (cc)
+      | inr k ↦
+          let first : g a ≡ f a = same a (λ z. k (ap (λ r. (f r).key) z ∙ x.is)) in
+          let rest : with_own (entries f (a + 1) n) e ≡ entries g (a + 1) n = replaced f g (a + 1) n e row (only_behind f a n e.key row x k) new same in
+          rw (ne_eqb (f a).key e.key k) (cc)
+    ]
 
 -- an entry with a new key comes behind the others
 pub put_behind : (b : Book) (e : Entry) → has b e.key ≡ false → with_own b e ≡ b ++ e ∷ []
 unfolding has with_own
 put_behind [] e none = refl
-put_behind (x ∷ xs) e none =
-    let (first, rest) = or_parts (eqb x.key e.key) (has xs e.key) none in
-    rw first (ap (λ (b : Book). x ∷ b) (put_behind xs e rest))
+put_behind (x ∷ xs) e none = grind (arith, put_behind xs e)
 
 pub accepted_behind : (o : ℕ) (b : Book) (e : Entry) → accepted o (b ++ e ∷ []) ≡ accepted o b + pick (eqb (origin e.key) o) 1 0
 unfolding accepted
@@ -91,13 +88,9 @@ accepted_behind o (x ∷ xs) e = omega (arith, accepted_behind o xs e)
 pub accepted_same : (o : ℕ) (f g : ℕ → Entry) (a n : ℕ) → ((r : ℕ) → (g r).key ≡ (f r).key) → accepted o (entries g a n) ≡ accepted o (entries f a n)
 unfolding accepted
 accepted_same o f g a zero same = refl
-accepted_same o f g a (suc n) same = rw (same a) (ap (λ n. pick (eqb (origin (f a).key) o) 1 0 + n) (accepted_same o f g (a + 1) n same))
+accepted_same o f g a (suc n) same = rw (same a, accepted_same o f g (a + 1) n same)
 
 pub accepted_few : (o : ℕ) (b : Book) → accepted o b ≤ length b
 unfolding accepted
 accepted_few o [] = omega arith
-accepted_few o (x ∷ xs) = one (eqb (origin x.key) o) (accepted_few o xs)
-  where
-    one : (t : Bool) → accepted o xs ≤ length xs → pick t 1 0 + accepted o xs ≤ suc (length xs)
-    one true h = omega arith
-    one false h = omega arith
+accepted_few o (x ∷ xs) = grind (arith, accepted_few o xs)

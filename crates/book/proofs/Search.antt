@@ -1,16 +1,14 @@
 -- How a search goes through a sound tree.
-use Rattle.std.proofs.Common.{◌≡◌, ℕ, zero, suc, ◌+◌, ◌*◌, ◌/◌, ◌%◌, ◌^◌, ◌<◌, ◌≤◌, eqb, ◌≢◌, sym, refl, ap, ◌∙◌, subst, inl, inr, ⊎_elim, add-one, arith, eq-eqb, ne_eqb}
+use Rattle.std.proofs.Common.{◌≡◌, ℕ, zero, suc, ◌+◌, ◌*◌, ◌/◌, ◌%◌, ◌^◌, ◌<◌, ◌≤◌, eqb, ◌≢◌, sym, refl, ap, ◌∙◌, subst, inl, inr, add-one, arith, eq-eqb, ne_eqb}
 use Rattle.std.proofs.lemmas.Nat.{shr-shr}
 use Rattle.std.proofs.lemmas.Bool.{cases_eq}
+use Rattle.std.proofs.lemmas.Bool.Decides.{nat_tests}
 use Rattle.parcels.specs.Book.{pick}
 use Rattle.rows.specs.declared.Link.{Link}
 use Rattle.book.specs.Tree.{Tree, root, key_bits, turns_right, link_below, Spot, at, free, seek, height, Hangs, SoundTree}
 
 bit_of : (x : ℕ) → pick (eqb (x % 2) 1) 1 0 ≡ x % 2
-bit_of x = ⊎_elim (λ (e : x % 2 ≡ 1). rw (eq-eqb (x % 2) 1 e) (sym e)) (λ (e : x % 2 ≡ 1 → ⊥). rw (ne_eqb (x % 2) 1 e) (zero_bit e)) (cases_eq (x % 2) 1)
-  where
-    zero_bit : (x % 2 ≡ 1 → ⊥) → 0 ≡ x % 2
-    zero_bit e = ⊎_elim (λ (z : x % 2 ≡ 0). sym z) (λ (z : x % 2 ≡ 0 → ⊥). absurd (e (omega arith))) (cases_eq (x % 2) 0)
+bit_of x = grind (arith, nat_tests)
 
 -- one bit more of a key
 pub one_bit : (key h : ℕ) → key / 2 ^ h ≡ 2 * (key / 2 ^ suc h) + pick (turns_right h key) 1 0
@@ -51,12 +49,11 @@ way_seek {t} {n} {key} (stops {h} {l} hangs none) = seek_free t h l key none
 way_seek {t} {n} {key} (ends {h} {l} _ some _ k) = seek_here t h l key some k
 way_seek {t} {n} {key} (goes {h} {l} _ some _ k w) = seek_on t h l key some k ∙ way_seek w
 
-module _ (t : Tree) (n : ℕ) (sound : SoundTree t n) where
-  -- a link hangs in the root or in one of the rows
-  hangs_row : (h prefix : ℕ) (l : Link) → Hangs t n h prefix l → l.row ≤ n
-  hangs_row h prefix l (inl (e, _, _)) = rw e (omega arith)
-  hangs_row h prefix l (inr (_, low, _, _)) = low
+-- a link hangs in the root or in one of the rows
+pub hangs_row : (t : Tree) (n h prefix : ℕ) (l : Link) → Hangs t n h prefix l → l.row ≤ n
+hangs_row t n h prefix l hangs = grind arith
 
+module _ (t : Tree) (n : ℕ) (sound : SoundTree t n) where
   -- what a link leads to
   pub leads : (h prefix : ℕ) (l : Link) → Hangs t n h prefix l → t.link l ≢ 0 → (t.link l ≤ n) × (height t (t.link l) ≡ h) × (t.key (t.link l) / 2 ^ h ≡ prefix)
   leads h prefix l hangs some = sound.linked (record { bits = h; prefix = prefix; link = l; hangs = hangs; leads = some })
@@ -70,21 +67,25 @@ module _ (t : Tree) (n : ℕ) (sound : SoundTree t n) where
   -- every search in a sound tree has a way
   pub way : (h : ℕ) (l : Link) (key : ℕ) → Hangs t n h (key / 2 ^ h) l → Way t n key h l (seek t h l key)
   way zero l key hangs =
-      ⊎_elim (λ (none : t.link l ≡ 0). rw (seek_free t 0 l key none) (stops hangs none))
-      (λ (some : t.link l ≡ 0 → ⊥).
-      let (low, _, begins) = leads 0 (key / 2 ^ 0) l hangs some in
-      rw (seek_last t l key some) (ends (hangs_row 0 (key / 2 ^ 0) l hangs) some low (omega (arith, begins))))
-      (cases_eq (t.link l) 0)
+      elim (cases_eq (t.link l) 0) [
+        | inl none ↦ rw (seek_free t 0 l key none) (stops hangs none)
+        | inr some ↦
+            let (low, _, begins) = leads 0 (key / 2 ^ 0) l hangs some in
+            rw (seek_last t l key some) (ends (hangs_row t n 0 (key / 2 ^ 0) l hangs) some low (omega (arith, begins)))
+      ]
   way (suc h) l key hangs =
-      ⊎_elim (λ (none : t.link l ≡ 0). rw (seek_free t (suc h) l key none) (stops hangs none))
-      (λ (some : t.link l ≡ 0 → ⊥).
-      let (low, _, _) = leads (suc h) (key / 2 ^ suc h) l hangs some in
-      let row : l.row ≤ n = hangs_row (suc h) (key / 2 ^ suc h) l hangs in
-      ⊎_elim (λ (k : t.key (t.link l) ≡ key). rw (seek_here t (suc h) l key some k) (ends row some low k))
-      (λ (k : t.key (t.link l) ≡ key → ⊥).
-      rw (seek_on t h l key some k) (goes row some low k (way h (link_below (t.link l) h key) key (hangs_below h key l hangs some))))
-      (cases_eq (t.key (t.link l)) key))
-      (cases_eq (t.link l) 0)
+      elim (cases_eq (t.link l) 0) [
+        | inl none ↦ rw (seek_free t (suc h) l key none) (stops hangs none)
+        | inr some ↦
+            let (low, _, _) = leads (suc h) (key / 2 ^ suc h) l hangs some in
+            let row : l.row ≤ n = hangs_row t n (suc h) (key / 2 ^ suc h) l hangs in
+            elim (cases_eq (t.key (t.link l)) key) [
+              | inl k ↦ rw (seek_here t (suc h) l key some k) (ends row some low k)
+              | inr k ↦
+                  rw (seek_on t h l key some k)
+                  (goes row some low k (way h (link_below (t.link l) h key) key (hangs_below h key l hangs some)))
+            ]
+      ]
 
   -- the root hangs, for every key of four bytes
   pub hangs_root : (key : ℕ) → key < 2 ^ key_bits → Hangs t n key_bits (key / 2 ^ key_bits) root
@@ -95,7 +96,7 @@ module _ (t : Tree) (n : ℕ) (sound : SoundTree t n) where
 
 -- where a way ends at a row, the row has the key
 pub way_at : {t : Tree} {n key h : ℕ} {l : Link} {s : Spot} (row left : ℕ) → Way t n key h l s → s ≡ at row left → (1 ≤ row) × (row ≤ n) × (t.key row ≡ key)
-way_at row left (stops _ _) e = absurd (let z : ◌≡◌ {A = ℕ} 0 1 = cc in omega arith)
+way_at row left (stops _ _) e = absurd (cc)
 way_at {t} {n} {key} row left (ends {h} {l} _ some low k) e =
     let same : t.link l ≡ row = cc in
     (omega arith, omega arith, ap t.key (sym same) ∙ k)
@@ -108,5 +109,5 @@ way_free {t} {n} {key} end left (stops {h} {l} hangs none) e =
     let link : l ≡ end = cc in
     let bits : h ≡ left = cc in
     (subst (λ (k : Link). Hangs t n left (key / 2 ^ left) k) link (subst (λ b. Hangs t n b (key / 2 ^ b) l) bits hangs), ap t.link (sym link) ∙ none)
-way_free end left (ends _ _ _ _) e = absurd (let z : ◌≡◌ {A = ℕ} 0 1 = cc in omega arith)
+way_free end left (ends _ _ _ _) e = absurd (cc)
 way_free end left (goes _ _ _ _ w) e = way_free end left w e

@@ -17,7 +17,7 @@ pub const MAX_OFFICES: u32 = 16;
 pub const MAX_PARCELS: u32 = 65_536;
 
 // How many offices there are, the number of the one that is opened, and how many parcels it ever has to do with: all
-// in range.
+// in range. They come one by one, from a line of a file or a count of offices, and go together from here on.
 #[derive(Clone, Copy)]
 pub struct Opening {
     offices: u32,
@@ -30,8 +30,7 @@ impl Opening {
     pub fn new(offices: u32, own: u32, parcels: u32) -> Result<Opening, Refusal>
         ensures { elim result [ Ok x ↦ (in_range offices own parcels ≡ true) × (x.offices ≡ offices) × (x.own ≡ own) × (x.parcels ≡ parcels) | Err e ↦ (in_range offices own parcels ≡ false) × (e ≡ bad_limits) ] }
     {
-        if offices < MIN_OFFICES
-            || offices > MAX_OFFICES
+        if !(MIN_OFFICES..=MAX_OFFICES).contains(&offices)
             || own >= offices
             || parcels > MAX_PARCELS
         {
@@ -72,7 +71,7 @@ impl Opening {
                 accepted: 0,
             },
         );
-        write_link(memory, Link::ROOT, 0);
+        write_link(memory, Link::ROOT, None);
         Ok(())
     }
 }

@@ -6,24 +6,18 @@ ghost use Rattle.book.specs.Search.{place_of, Searchable};
 
 use rows::{Link, read_key, read_link};
 
-// Where the search for a key ends: at its row, or at a link that leads nowhere, where its row would hang.
-#[derive(Clone, Copy)]
-pub enum Place {
-    Row(u32),
-    Free(Link),
-}
-
-// The search from a link on, with so many bits of the key left. With none left, the row has this key.
-fn seek(memory: &[u32], link: Link, key: u32, height: u32) -> Place
+// The search from a link on, with so many bits of the key left. With none left, the row has this key. It ends at the
+// key's row, or fails at a link that leads nowhere, where its row would hang. By recursion over a height that falls,
+// which is the form in which this project goes through a book.
+fn seek(memory: &[u32], link: Link, key: u32, height: u32) -> Result<u32, Link>
     requires { Searchable memory.now link key height }
     ensures { result ≡ place_of (seek (tree_of memory.now) height link key) }
 {
-    let row = read_link(memory, link);
-    if row == 0 {
-        return Place::Free(link);
-    }
+    let Some(row) = read_link(memory, link) else {
+        return Err(link);
+    };
     if height == 0 || read_key(memory, row) == key {
-        return Place::Row(row);
+        return Ok(row);
     }
     let bit = height - 1;
     let right = (key >> bit) % 2 == 1;

@@ -15,6 +15,6 @@ one_digit ds i n d h e inv =
 pub all_digits : (ds : List ℕ) (i n : ℕ) → length ds ≤ i → fold with_digit n (drop i ds) ≡ value_of ds → n ≡ value_of ds
 all_digits ds i n h inv = sym (ap (fold with_digit n) (drop_of_length-le ds h)) ∙ inv
 
--- a value that is too large stays so
-pub too_large : (ds : List ℕ) (i n : ℕ) → fold with_digit n (drop i ds) ≡ value_of ds → n ≤ value_of ds
-too_large ds i n inv = subst (λ v. n ≤ v) inv (grows n (drop i ds))
+-- the whole value is no smaller than that with the digit at i
+pub too_large : (ds : List ℕ) (i n d : ℕ) → i < length ds → d ≡ get_or ds i 0 - 48 → fold with_digit n (drop i ds) ≡ value_of ds → n * 10 + d ≤ value_of ds
+too_large ds i n d h e inv = subst (λ v. n * 10 + d ≤ v) (one_digit ds i n d h e inv) (grows (n * 10 + d) (drop (i + 1) ds))

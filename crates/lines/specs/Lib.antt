@@ -1,2 +1,4 @@
 pub mod Decimal
 pub mod Faults
+pub mod Tokens
+pub mod Forms

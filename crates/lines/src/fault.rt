@@ -10,16 +10,20 @@ use std::fmt;
 pub enum Fault {
     // What should stand at the first place that does not fit.
     Expected(&'static str),
+    // The word or mark that should stand there.
+    ExpectedToken(&'static str),
     TooLarge,
     NoMemory,
 }
 
+// By hand, since the text is stated, and a derive states none.
 impl fmt::Display for Fault {
     ghost output = { λ x. Some (fault_text x) };
 
     fn fmt<W: fmt::Write>(&self, f: &mut fmt::Formatter<W>) -> fmt::Result {
         match self {
             Fault::Expected(what) => write!(f, "expected {what}"),
+            Fault::ExpectedToken(token) => write!(f, "expected '{token}'"),
             Fault::TooLarge => write!(f, "a number that four bytes can't hold"),
             Fault::NoMemory => write!(f, "no memory left"),
         }

@@ -1,6 +1,11 @@
 // Lines of a world file, which says what happens at a post's offices.
 #![tactic(auto)]
 
+ghost use Rattle.std.specs.Prelude.{◌≡◌, ◌↔◌, IsTrue, IfOk, Ok, codes};
+ghost use Rattle.lines.specs.Tokens.{is_blank_line};
+ghost use Rattle.lines.specs.Forms.{call_form, line_form, FromWord, Says};
+ghost use Rattle.lines.specs.declared.Line.TheVariants.{Blank};
+
 mod fault;
 mod reader;
 
@@ -12,7 +17,8 @@ use std::alloc::Global;
 // A line. `at` is the office at which something is done.
 #[derive(Drop)]
 pub enum Line {
-    // Nothing but blanks, or a comment, which begins with '#'.
+    // Nothing but blanks, or a comment, which begins with '#'. No None: it is a line, and whoever reads lines passes it
+    // over in a match that has to be made anyway.
     Blank,
     Opening { offices: u32, parcels: u32 },
     Call { at: u32, call: Call },
@@ -26,26 +32,31 @@ pub enum Line {
 }
 
 // Reads one line, which is given without its newline and may hold any bytes.
-pub fn read_line(heap: Global, line: &[u8]) -> Result<Line, Fault> {
-    let mut reader = Reader::new(line);
+pub fn read_line(heap: Global, line: &[u8]) -> Result<Line, Fault>
+    ensures blank { (result ≡ Ok Blank) ↔ IsTrue (is_blank_line line.now) }
+    ensures value { IfOk result (Says line.now) }
+{
+    let mut reader = Reader::new(heap, line);
     if reader.at_end() || reader.at_comment() {
         return Ok(Line::Blank);
     }
-    let line = read_form(heap, &mut reader)?;
+    let line = read_form(&mut reader)?;
     reader.end()?;
     Ok(line)
 }
 
-fn read_form(heap: Global, reader: &mut Reader) -> Result<Line, Fault> {
+fn read_form(reader: &mut Reader) -> Result<Line, Fault>
+    ensures { IfOk result (λ line. line_form line (λ left. left ≡ reader.new) reader.old) }
+{
     if reader.at_number() {
         return read_opening(reader);
     }
     match reader.word() {
-        b"at" => read_at(heap, reader),
+        b"at" => read_at(reader),
         b"all" => read_all(reader),
         b"letter" => {
             let number = reader.number()?;
-            reader.expect(b"comes", "'comes'")?;
+            reader.expect("comes")?;
             Ok(Line::Letter { number })
         }
         _ => Err(Fault::Expected(
@@ -55,30 +66,34 @@ fn read_form(heap: Global, reader: &mut Reader) -> Result<Line, Fault> {
 }
 
 // 3 offices, 8 parcels
-fn read_opening(reader: &mut Reader) -> Result<Line, Fault> {
+fn read_opening(reader: &mut Reader) -> Result<Line, Fault>
+    ensures { IfOk result (λ line. line_form line (λ left. left ≡ reader.new) reader.old) }
+{
     let offices = reader.number()?;
-    reader.expect(b"offices", "'offices'")?;
-    reader.comma()?;
+    reader.expect("offices")?;
+    reader.expect_mark(",")?;
     let parcels = reader.number()?;
-    reader.expect(b"parcels", "'parcels'")?;
+    reader.expect("parcels")?;
     Ok(Line::Opening { offices, parcels })
 }
 
 // What stands after 'all': clocks tick, letters come, or letters come, the last first
-fn read_all(reader: &mut Reader) -> Result<Line, Fault> {
+fn read_all(reader: &mut Reader) -> Result<Line, Fault>
+    ensures { IfOk result (λ line. FromWord (codes "all") reader.old (line_form line (λ left. left ≡ reader.new))) }
+{
     match reader.word() {
         b"clocks" => {
-            reader.expect(b"tick", "'tick'")?;
+            reader.expect("tick")?;
             Ok(Line::AllTick)
         }
         b"letters" => {
-            reader.expect(b"come", "'come'")?;
-            if !reader.take(b',') {
+            reader.expect("come")?;
+            if !reader.take(",") {
                 return Ok(Line::AllLetters);
             }
-            reader.expect(b"the", "'the'")?;
-            reader.expect(b"last", "'last'")?;
-            reader.expect(b"first", "'first'")?;
+            reader.expect("the")?;
+            reader.expect("last")?;
+            reader.expect("first")?;
             Ok(Line::AllLettersLastFirst)
         }
         _ => Err(Fault::Expected("'clocks' or 'letters'")),
@@ -86,13 +101,15 @@ fn read_all(reader: &mut Reader) -> Result<Line, Fault> {
 }
 
 // What stands after 'at'.
-fn read_at(heap: Global, reader: &mut Reader) -> Result<Line, Fault> {
+fn read_at(reader: &mut Reader) -> Result<Line, Fault>
+    ensures { IfOk result (λ line. FromWord (codes "at") reader.old (line_form line (λ left. left ≡ reader.new))) }
+{
     let at = reader.number()?;
-    reader.colon()?;
+    reader.expect_mark(":")?;
     match reader.word() {
         b"tick" => Ok(Line::Tick { at }),
         b"bytes" => {
-            let bytes = reader.bytes(heap)?;
+            let bytes = reader.bytes()?;
             Ok(Line::Bytes { at, bytes })
         }
         name => {
@@ -103,7 +120,9 @@ fn read_at(heap: Global, reader: &mut Reader) -> Result<Line, Fault> {
 }
 
 // The call of which `name` is the first word, and which the reader goes on with.
-fn read_call(name: &[u8], reader: &mut Reader) -> Result<Call, Fault> {
+fn read_call(name: &[u8], reader: &mut Reader) -> Result<Call, Fault>
+    ensures { IfOk result (λ call. FromWord name.now reader.old (call_form call (λ left. left ≡ reader.new))) }
+{
     match name {
         b"accept" => read_accept(reader),
         b"send" => read_send(reader),
@@ -112,7 +131,7 @@ fn read_call(name: &[u8], reader: &mut Reader) -> Result<Call, Fault> {
         }),
         b"take" => read_take_in(reader),
         b"hand" => {
-            reader.expect(b"out", "'out'")?;
+            reader.expect("out")?;
             Ok(Call::HandOut {
                 key: reader.number()?,
             })
@@ -121,13 +140,13 @@ fn read_call(name: &[u8], reader: &mut Reader) -> Result<Call, Fault> {
             key: reader.number()?,
         }),
         b"where" => {
-            reader.expect(b"is", "'is'")?;
+            reader.expect("is")?;
             Ok(Call::WhereIs {
                 key: reader.number()?,
             })
         }
         b"here" => {
-            reader.expect(b"from", "'from'")?;
+            reader.expect("from")?;
             Ok(Call::Here {
                 from: reader.number()?,
             })
@@ -140,40 +159,40 @@ fn read_call(name: &[u8], reader: &mut Reader) -> Result<Call, Fault> {
 }
 
 // accept for 2, 50
-fn read_accept(reader: &mut Reader) -> Result<Call, Fault> {
-    reader.expect(b"for", "'for'")?;
+fn read_accept(reader: &mut Reader) -> Result<Call, Fault>
+    ensures { IfOk result (λ call. FromWord (codes "accept") reader.old (call_form call (λ left. left ≡ reader.new))) }
+{
+    reader.expect("for")?;
     let dest = reader.number()?;
-    reader.comma()?;
+    reader.expect_mark(",")?;
     let amount = reader.number()?;
     Ok(Call::Accept { dest, amount })
 }
 
 // send 0 to 1
-fn read_send(reader: &mut Reader) -> Result<Call, Fault> {
+fn read_send(reader: &mut Reader) -> Result<Call, Fault>
+    ensures { IfOk result (λ call. FromWord (codes "send") reader.old (call_form call (λ left. left ≡ reader.new))) }
+{
     let key = reader.number()?;
-    reader.expect(b"to", "'to'")?;
+    reader.expect("to")?;
     let to = reader.number()?;
     Ok(Call::Send { key, to })
 }
 
 // take in 0: 1 0 1 2 50, where the numbers are key, step, from, to, dest and amount
-fn read_take_in(reader: &mut Reader) -> Result<Call, Fault> {
-    reader.expect(b"in", "'in'")?;
+fn read_take_in(reader: &mut Reader) -> Result<Call, Fault>
+    ensures { IfOk result (λ call. FromWord (codes "take") reader.old (call_form call (λ left. left ≡ reader.new))) }
+{
+    reader.expect("in")?;
     let key = reader.number()?;
-    reader.colon()?;
-    let step = u64::from(reader.number()?);
-    let from = reader.number()?;
-    let to = reader.number()?;
-    let dest = reader.number()?;
-    let amount = reader.number()?;
-    Ok(Call::TakeIn {
-        slip: Slip {
-            key,
-            step,
-            from,
-            to,
-            dest,
-            amount,
-        },
-    })
+    reader.expect_mark(":")?;
+    let slip = Slip {
+        key,
+        step: u64::from(reader.number()?),
+        from: reader.number()?,
+        to: reader.number()?,
+        dest: reader.number()?,
+        amount: reader.number()?,
+    };
+    Ok(Call::TakeIn { slip })
 }

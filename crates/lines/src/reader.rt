@@ -1,151 +1,172 @@
-// Cuts a line into tokens: words (runs of letters), numbers (runs of digits) and marks (single bytes).
-ghost use Rattle.std.specs.Prelude.{◌≡◌, ◌+◌, ◌^◌, ◌<◌, ◌≤◌, length, OnOk, ◌==◌};
+// Cuts a line into tokens: words (runs of letters), numbers (runs of digits) and marks.
+ghost use Rattle.std.specs.Prelude.{◌≡◌, ℕ, ◌+◌, ◌^◌, ◌<◌, ◌≤◌, ◌↔◌, Bool, false, List, drop, length, IsTrue, IsOk, IfOk, IfErr, OnOk, ◌==◌, ◌⊎◌, cond};
+ghost use Rattle.std.specs.Char.{is_ascii_alphabetic, is_ascii_digit};
+ghost use Rattle.std.specs.Fn.{FnReturnsAt};
+ghost use Rattle.std.specs.List.{prefix_len, take_while, starts_with};
 ghost use Rattle.std.specs.Option.{SomeIff};
+ghost use Rattle.std.specs.Result.{OkIff};
 ghost use Rattle.lines.specs.Decimal.{value_of};
+ghost use Rattle.lines.specs.Tokens.{AnswersAs, first_passes, is_blank, without_blanks, behind, first_number, HasNumberBelow, AreBytes};
+ghost use Rattle.lines.specs.declared.fault.Fault.TheVariants.{NoMemory};
 
 use crate::fault::Fault;
 use std::alloc::Global;
+use std::marker::Model;
 
-#[derive(Clone, Copy, PartialEq)]
-enum Class {
-    Blank,
-    Letter,
-    Digit,
-    Other,
-}
-
-fn class_of(b: u8) -> Class {
-    match b {
-        b' ' | b'\t' | b'\r' => Class::Blank,
-        b'a'..=b'z' | b'A'..=b'Z' => Class::Letter,
-        b'0'..=b'9' => Class::Digit,
-        _ => Class::Other,
-    }
-}
-
-// How many bytes at the front are of one class.
-fn run_len(bytes: &[u8], class: Class) -> usize
-    ensures { result ≤ length bytes.now }
+fn is_blank(b: &u8) -> bool
+    ensures { result ≡ is_blank b.now }
 {
-    for (i, b) in bytes.iter().enumerate() {
-        if class_of(*b) != class {
-            return i;
-        }
-    }
-    bytes.len()
+    matches!(b, b' ' | b'\t' | b'\r')
 }
 
-// The number that decimal digits stand for, if four bytes hold it. Leading zeros are fine.
+// How many bytes at the front pass a test.
+fn run_len<F: Fn(&u8) -> bool>(bytes: &[u8], passes: F) -> usize
+    requires { F.IsAlwaysCallable passes }
+    ensures bound { result ≤ length bytes.now }
+    ensures value { (test : ℕ → Bool) → AnswersAs test (FnReturnsAt F.Fn passes) → result ≡ prefix_len test bytes.now }
+{
+    bytes.iter().position(|b| !passes(b)).unwrap_or(bytes.len())
+}
+
+fn without_blanks(bytes: &[u8]) -> &[u8]
+    ensures value { result.now ≡ without_blanks bytes.now }
+    ensures no_blank { first_passes is_blank result.now ≡ false }
+{
+    &bytes[run_len(bytes, is_blank)..]
+}
+
+// The number that decimal digits stand for, if four bytes hold it. Leading zeros are fine. (std's `parse` takes a str,
+// which these bytes would have to be shown to be.)
 fn value_of(digits: &[u8]) -> Option<u32>
     ensures { SomeIff result (value_of digits.now < 2 ^ 32) (value_of digits.now) }
 {
-    let mut value: u64 = 0;
+    let mut value: u32 = 0;
     for d in digits {
         // What is passed are digits, so nothing is cut off here.
-        value = value * 10 + u64::from(d.saturating_sub(b'0'));
-        if value > u64::from(u32::MAX) {
-            return None;
-        }
+        let digit = u32::from(d.saturating_sub(b'0'));
+        value = value.checked_mul(10)?.checked_add(digit)?;
     }
-    Some(value as u32)
+    Some(value)
 }
 
-// What is left of a line. No blank stands at the front.
+// What is left of a line, and the heap for what is read from it.
 #[derive(Drop)]
 pub struct Reader<'a> {
+    heap: Global,
     rest: &'a [u8],
 }
 
+// What is left. No blank stands at its front.
+impl<'a> Model for Reader<'a> {
+    ghost Value = { List ℕ };
+
+    ghost view = { λ r. r.rest.now };
+
+    ghost invariant = { λ r. first_passes is_blank r.rest.now ≡ false };
+}
+
 impl<'a> Reader<'a> {
-    pub fn new(line: &'a [u8]) -> Reader<'a> {
-        let mut reader = Reader { rest: line };
-        reader.pass(0);
-        reader
+    pub fn new(heap: Global, line: &'a [u8]) -> Reader<'a>
+        ensures { result ≡ without_blanks line.now }
+    {
+        Reader {
+            heap,
+            rest: without_blanks(line),
+        }
     }
 
     // Whether nothing is left.
     pub fn at_end(&self) -> bool
-        ensures { result ≡ (length self.now.rest.now == 0) }
+        ensures { result ≡ (length self.now == 0) }
     {
         self.rest.is_empty()
     }
 
-    pub fn at_comment(&self) -> bool {
+    pub fn at_comment(&self) -> bool
+        ensures { result ≡ first_passes (λ b. b == 35) self.now }
+    {
         matches!(self.rest, [b'#', ..])
     }
 
-    pub fn at_number(&self) -> bool {
-        matches!(self.rest, [b'0'..=b'9', ..])
+    pub fn at_number(&self) -> bool
+        ensures { result ≡ first_passes is_ascii_digit self.now }
+    {
+        self.rest.first().is_some_and(u8::is_ascii_digit)
     }
 
     // Goes past the first `n` bytes, and the blanks after them.
     fn pass(&mut self, n: usize)
-        requires { n ≤ length self.old.rest.now }
-        ensures { n + length self.new.rest.now ≤ length self.old.rest.now }
+        requires { n ≤ length self.old }
+        ensures { self.new ≡ without_blanks (drop n self.old) }
     {
-        let after = &self.rest[n..];
-        self.rest = &after[run_len(after, Class::Blank)..];
+        self.rest = without_blanks(&self.rest[n..]);
     }
 
-    // Takes the bytes of one class that stand next: none, if the next byte is of another.
-    fn run(&mut self, class: Class) -> &'a [u8]
-        ensures { length result.now + length self.new.rest.now ≤ length self.old.rest.now }
+    // Takes the bytes at the front that pass a test: none, if the next byte does not.
+    fn run<F: Fn(&u8) -> bool>(&mut self, passes: F) -> &'a [u8]
+        requires { F.IsAlwaysCallable passes }
+        ensures value { (test : ℕ → Bool) → AnswersAs test (FnReturnsAt F.Fn passes) → result.now ≡ take_while test self.old }
+        ensures after { (test : ℕ → Bool) → AnswersAs test (FnReturnsAt F.Fn passes) → self.new ≡ behind test self.old }
+        ensures shorter { length result.now + length self.new ≤ length self.old }
     {
-        let n = run_len(self.rest, class);
-        let run = &self.rest[0..n];
+        let n = run_len(self.rest, passes);
+        let run = &self.rest[..n];
         self.pass(n);
         run
     }
 
     // Takes the next word, which is empty if no letter stands next.
-    pub fn word(&mut self) -> &'a [u8] {
-        self.run(Class::Letter)
+    pub fn word(&mut self) -> &'a [u8]
+        ensures value { result.now ≡ take_while is_ascii_alphabetic self.old }
+        ensures after { self.new ≡ behind is_ascii_alphabetic self.old }
+    {
+        self.run(u8::is_ascii_alphabetic)
     }
 
-    // Takes a word that has to stand next, and which `what` names in a fault.
-    pub fn expect(&mut self, word: &[u8], what: &'static str) -> Result<(), Fault> {
-        if self.word() == word {
-            Ok(())
-        } else {
-            Err(Fault::Expected(what))
-        }
+    // Takes a word that has to stand next.
+    pub fn expect(&mut self, word: &'static str) -> Result<(), Fault>
+        ensures value { IsOk result ↔ (take_while is_ascii_alphabetic self.old ≡ word.now) }
+        ensures after { self.new ≡ behind is_ascii_alphabetic self.old }
+    {
+        let found = self.word() == word.as_bytes();
+        found.then_some(()).ok_or(Fault::ExpectedToken(word))
     }
 
     // Takes a mark if it stands next.
-    pub fn take(&mut self, mark: u8) -> bool {
-        let found = !self.rest.is_empty() && self.rest[0] == mark;
+    pub fn take(&mut self, mark: &str) -> bool
+        ensures value { result ≡ starts_with ◌==◌ self.old mark.now }
+        ensures after { self.new ≡ cond result (without_blanks (drop (length mark.now) self.old)) self.old }
+    {
+        let found = self.rest.starts_with(mark.as_bytes());
         if found {
-            self.pass(1);
+            self.pass(mark.len());
         }
         found
     }
 
-    pub fn colon(&mut self) -> Result<(), Fault> {
-        if self.take(b':') {
-            Ok(())
-        } else {
-            Err(Fault::Expected("':'"))
-        }
+    // Takes a mark that has to stand next.
+    pub fn expect_mark(&mut self, mark: &'static str) -> Result<(), Fault>
+        ensures value { IsOk result ↔ IsTrue (starts_with ◌==◌ self.old mark.now) }
+        ensures after { OnOk result (self.new ≡ without_blanks (drop (length mark.now) self.old)) }
+    {
+        self.take(mark)
+            .then_some(())
+            .ok_or(Fault::ExpectedToken(mark))
     }
 
-    pub fn comma(&mut self) -> Result<(), Fault> {
-        if self.take(b',') {
-            Ok(())
-        } else {
-            Err(Fault::Expected("','"))
-        }
+    pub fn end(&self) -> Result<(), Fault>
+        ensures { IsOk result ↔ (length self.now ≡ 0) }
+    {
+        self.at_end()
+            .then_some(())
+            .ok_or(Fault::Expected("the end of the line"))
     }
 
-    pub fn end(&self) -> Result<(), Fault> {
-        if self.at_end() {
-            Ok(())
-        } else {
-            Err(Fault::Expected("the end of the line"))
-        }
-    }
-
-    pub fn number(&mut self) -> Result<u32, Fault> {
-        let digits = self.run(Class::Digit);
+    pub fn number(&mut self) -> Result<u32, Fault>
+        ensures value { OkIff result (HasNumberBelow (2 ^ 32) self.old) (first_number self.old) }
+        ensures after { self.new ≡ behind is_ascii_digit self.old }
+    {
+        let digits = self.run(u8::is_ascii_digit);
         if digits.is_empty() {
             return Err(Fault::Expected("a number"));
         }
@@ -153,21 +174,21 @@ impl<'a> Reader<'a> {
     }
 
     pub fn byte(&mut self) -> Result<u8, Fault>
-        ensures { OnOk result (length self.new.rest.now < length self.old.rest.now) }
+        ensures value { OkIff result (HasNumberBelow (2 ^ 8) self.old) (first_number self.old) }
+        ensures after { self.new ≡ behind is_ascii_digit self.old }
+        ensures shorter { OnOk result (length self.new < length self.old) }
     {
-        let digits = self.run(Class::Digit);
-        if !digits.is_empty()
-            && let Some(n) = value_of(digits)
-            && n < 256
-        {
-            return Ok(n as u8);
-        }
-        Err(Fault::Expected("a byte from 0 to 255"))
+        let byte = self.number().ok().and_then(|n| u8::try_from(n).ok());
+        byte.ok_or(Fault::Expected("a byte from 0 to 255"))
     }
 
     // Takes bytes up to the line's end.
-    pub fn bytes(&mut self, heap: Global) -> Result<Vec<u8>, Fault> {
-        let mut bytes = Vec::new(heap);
+    pub fn bytes(&mut self) -> Result<Vec<u8>, Fault>
+        ensures value { IfOk result (λ bytes. AreBytes bytes.items self.old) }
+        ensures only { IfErr result (λ fault. fault ≡ NoMemory ⊎ ((values : List ℕ) → ¬ (AreBytes values self.old))) }
+        ensures after { OnOk result (length self.new ≡ 0) }
+    {
+        let mut bytes = Vec::new(self.heap);
         while !self.at_end() {
             bytes.push(self.byte()?)?;
         }

@@ -1,22 +1,17 @@
 -- Opening an office, and the stage that its calls are in.
-use Rattle.std.specs.Prelude.{◌≡◌, ℕ, Bool, true, false, ◌&&◌, Ok, Err, Result, nat_le, nat_lt}
-use Rattle.parcels.specs.Numbers.{fewest_offices, most_offices, most_parcels}
+use Rattle.std.specs.Prelude.{◌≡◌, ℕ, true, false, Ok, Err, Result}
 use Rattle.parcels.specs.Calls.{Limits, nothing}
-use Rattle.parcels.specs.declared.Reason.TheVariants.{BadOpening}
 use Rattle.parcels.specs.declared.Refusal.{Refusal}
+use Rattle.book.specs.Opening.{in_range, bad_limits}
 use Rattle.office.specs.declared.Office.{Office}
 
--- how many offices there are, this one's number, and its limit of parcels are all in range
-abbrev pub in_range : ℕ → ℕ → ℕ → Bool
-in_range offices own parcels = (nat_le fewest_offices offices && nat_le offices most_offices) && (nat_lt own offices && nat_le parcels most_parcels)
-
--- limits out of range
-abbrev pub bad_limits : Refusal
-bad_limits = record { reason = BadOpening; place = 1 }
+-- an office that was opened with these limits
+abbrev pub IsOpened : Office → ℕ → ℕ → ℕ → Type 0
+IsOpened x offices own parcels = (x.opening.offices ≡ offices) × (x.opening.own ≡ own) × (x.opening.parcels ≡ parcels)
 
 -- an office opens where its limits are in range, and keeps them; else it is refused
 abbrev pub Opens : ℕ → ℕ → ℕ → Result Office Refusal → Type 0
-Opens offices own parcels (Ok x) = (in_range offices own parcels ≡ true) × (x ≡ record { offices = offices; own = own; parcels = parcels })
+Opens offices own parcels (Ok x) = (in_range offices own parcels ≡ true) × IsOpened x offices own parcels
 Opens offices own parcels (Err e) = (in_range offices own parcels ≡ false) × (e ≡ bad_limits)
 
 -- the stage of the office: nothing can be done yet
@@ -25,4 +20,4 @@ stage_limits offices parcels = record { can = nothing; offices = offices; parcel
 
 -- the same of an office
 abbrev pub office_limits : Office → Limits
-office_limits x = stage_limits x.offices x.parcels
+office_limits x = stage_limits x.opening.offices x.opening.parcels

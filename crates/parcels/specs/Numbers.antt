@@ -1,6 +1,6 @@
 -- The numbers by which calls, kinds of step, reasons and answers are known outside, the values that calls and
 -- answers carry, and the limits.
-use Rattle.std.specs.Prelude.{◌≡◌, ℕ, Bool, true, ◌&&◌, List, [], ◌∷◌, Some, None, Option, ◌≢◌, nat_lt}
+use Rattle.std.specs.Prelude.{◌≡◌, ℕ, Bool, true, ◌&&◌, List, [], ◌∷◌, Ok, Err, Result, ◌≢◌, nat_lt}
 use Rattle.parcels.specs.declared.Kind.{Kind}
 use Rattle.parcels.specs.declared.Kind.TheVariants.{Accepted, SentOn, ComeIn, HandedOut}
 use Rattle.parcels.specs.declared.Step.{Step}
@@ -10,6 +10,7 @@ use Rattle.parcels.specs.declared.Call.TheVariants.{Accept, Send, SlipAgain, Tak
 use Rattle.parcels.specs.declared.Reason.{Reason}
 use Rattle.parcels.specs.declared.Reason.TheVariants.{Unreadable, OutOfRange, BadOpening, NotHere, WrongSlip, OtherOffice, NothingToPay, PaidAlready, OverLimit}
 use Rattle.parcels.specs.declared.Refusal.{Refusal}
+use Rattle.parcels.specs.declared.UnknownNumber.{UnknownNumber}
 use Rattle.parcels.specs.declared.Answer.{Answer}
 use Rattle.parcels.specs.declared.Answer.TheVariants.{Refused, Number, Given, At, NothingHeard, Two}
 
@@ -131,7 +132,7 @@ answer_values (At s) = step_values s
 answer_values NothingHeard = []
 answer_values (Two m n) = m ∷ (n ∷ [])
 
--- which one has this number; none, where none has it
-abbrev pub ByNumber : {X : Type 0} → (X → ℕ) → ℕ → Option X → Type 0
-ByNumber number n (Some x) = number x ≡ n
-ByNumber {X} number n None = (x : X) → number x ≢ n
+-- which one has this number; an error that names the number, where none has it
+abbrev pub ByNumber : {X : Type 0} → (X → ℕ) → ℕ → Result X UnknownNumber → Type 0
+ByNumber number n (Ok x) = number x ≡ n
+ByNumber {X} number n (Err e) = (e.0 ≡ n) × ((x : X) → number x ≢ n)

@@ -4,13 +4,13 @@
 ghost use Rattle.std.specs.Prelude.{◌≡◌};
 ghost use Rattle.parcels.specs.Numbers.{call_number, kind_number, reason_number, answer_number, ByNumber};
 
-// What a step did with its parcel.
+// What a step did with its parcel, with its number in answers and in memory.
 #[derive(Clone, Copy, PartialEq, Eq)]
 pub enum Kind {
-    Accepted,
-    SentOn,
-    ComeIn,
-    HandedOut,
+    Accepted = 0,
+    SentOn = 1,
+    ComeIn = 2,
+    HandedOut = 3,
 }
 
 // A step that a parcel took: its number, from 0; its kind; the office that made it.
@@ -34,7 +34,8 @@ pub struct Slip {
 }
 
 // What an office has of a parcel by its own calls: the last step made here, to where the parcel was sent
-// by it (or this office), for which office it is, its amount, and whether that was paid out here.
+// by it (or this office), for which office it is, its amount, and whether that was paid out here. `paid` makes no Option
+// of the amount, which is known from the start.
 #[derive(Clone, Copy)]
 pub struct Entry {
     pub key: u32,
@@ -60,20 +61,24 @@ pub enum Call {
     Sums,
 }
 
-// Why a call is turned away, in the order of the list (pay is checked for an amount before, and for news after,
-// whether it was paid already).
+// Why a call is turned away. The checks are made in the order of these numbers; only pay asks for an amount to be paid
+// first, then whether it was paid already, and then for the news that makes it payable.
 #[derive(Clone, Copy, PartialEq, Eq)]
 pub enum Reason {
-    Unreadable,
-    OutOfRange,
-    BadOpening,
-    NotHere,
-    WrongSlip,
-    OtherOffice,
-    NothingToPay,
-    PaidAlready,
-    OverLimit,
+    Unreadable = 1,
+    OutOfRange = 2,
+    BadOpening = 3,
+    NotHere = 4,
+    WrongSlip = 5,
+    OtherOffice = 6,
+    NothingToPay = 7,
+    PaidAlready = 8,
+    OverLimit = 9,
 }
+
+// A number that no kind, or no reason, has.
+#[derive(Clone, Copy, Debug, PartialEq, Eq)]
+pub struct UnknownNumber(pub u64);
 
 // A reason, and the place in the call that it is about.
 #[derive(Clone, Copy, PartialEq, Eq)]
@@ -93,32 +98,33 @@ pub enum Answer {
     Two(u64, u64),
 }
 
-impl Kind {
-    pub fn number(self) -> u8
-        ensures { result ≡ kind_number self }
-    {
-        match self {
-            Kind::Accepted => 0,
-            Kind::SentOn => 1,
-            Kind::ComeIn => 2,
-            Kind::HandedOut => 3,
-        }
-    }
+impl From<Kind> for u8 {
+    ghost from_gives = { λ kind n. n ≡ kind_number kind };
 
-    pub fn from_number(n: u64) -> Option<Kind>
-        ensures { ByNumber kind_number n result }
-    {
+    fn from(kind: Kind) -> u8 {
+        kind as u8
+    }
+}
+
+// The numbers stand here once more: there is no derive that reads an enum back from them.
+impl TryFrom<u64> for Kind {
+    type Error = UnknownNumber;
+
+    ghost try_from_gives = { ByNumber kind_number };
+
+    fn try_from(n: u64) -> Result<Kind, UnknownNumber> {
         match n {
-            0 => Some(Kind::Accepted),
-            1 => Some(Kind::SentOn),
-            2 => Some(Kind::ComeIn),
-            3 => Some(Kind::HandedOut),
-            _ => None,
+            0 => Ok(Kind::Accepted),
+            1 => Ok(Kind::SentOn),
+            2 => Ok(Kind::ComeIn),
+            3 => Ok(Kind::HandedOut),
+            _ => Err(UnknownNumber(n)),
         }
     }
 }
 
 impl Call {
+    // The first of its bytes: no conversion, since a call is more than that.
     pub fn number(self) -> u8
         ensures { result ≡ call_number self }
     {
@@ -136,42 +142,37 @@ impl Call {
     }
 }
 
-impl Reason {
-    pub fn number(self) -> u8
-        ensures { result ≡ reason_number self }
-    {
-        match self {
-            Reason::Unreadable => 1,
-            Reason::OutOfRange => 2,
-            Reason::BadOpening => 3,
-            Reason::NotHere => 4,
-            Reason::WrongSlip => 5,
-            Reason::OtherOffice => 6,
-            Reason::NothingToPay => 7,
-            Reason::PaidAlready => 8,
-            Reason::OverLimit => 9,
-        }
-    }
+impl From<Reason> for u8 {
+    ghost from_gives = { λ reason n. n ≡ reason_number reason };
 
-    pub fn from_number(n: u64) -> Option<Reason>
-        ensures { ByNumber reason_number n result }
-    {
+    fn from(reason: Reason) -> u8 {
+        reason as u8
+    }
+}
+
+impl TryFrom<u64> for Reason {
+    type Error = UnknownNumber;
+
+    ghost try_from_gives = { ByNumber reason_number };
+
+    fn try_from(n: u64) -> Result<Reason, UnknownNumber> {
         match n {
-            1 => Some(Reason::Unreadable),
-            2 => Some(Reason::OutOfRange),
-            3 => Some(Reason::BadOpening),
-            4 => Some(Reason::NotHere),
-            5 => Some(Reason::WrongSlip),
-            6 => Some(Reason::OtherOffice),
-            7 => Some(Reason::NothingToPay),
-            8 => Some(Reason::PaidAlready),
-            9 => Some(Reason::OverLimit),
-            _ => None,
+            1 => Ok(Reason::Unreadable),
+            2 => Ok(Reason::OutOfRange),
+            3 => Ok(Reason::BadOpening),
+            4 => Ok(Reason::NotHere),
+            5 => Ok(Reason::WrongSlip),
+            6 => Ok(Reason::OtherOffice),
+            7 => Ok(Reason::NothingToPay),
+            8 => Ok(Reason::PaidAlready),
+            9 => Ok(Reason::OverLimit),
+            _ => Err(UnknownNumber(n)),
         }
     }
 }
 
 impl Answer {
+    // The first of its bytes.
     pub fn number(self) -> u8
         ensures { result ≡ answer_number self }
     {

@@ -21,6 +21,18 @@ Shown = Result (Option Answer) Stop
 abbrev pub spent : ℕ → Result (Unit {0}) Stop
 spent n = pick (n == 0) (Err BudgetSpent) (Ok tt)
 
+-- what comes of a thing that is counted down, and what it leaves: as the world has it, where the budget is not spent
+abbrev pub Spends : {A S : Type 0} → ℕ → S → (Result A CannotHappen → S → Type 0) → Result A Stop → S → Type 0
+Spends n w Happens (Ok a) v = (0 < n) × Happens (Ok a) v
+Spends n w Happens (Err (Bad t)) v = (0 < n) × ((e : CannotHappen) × (t ≡ Impossible e) × Happens (Err e) v)
+Spends n w Happens (Err BudgetSpent) v = (n ≡ 0) × (v ≡ w)
+Spends n w Happens (Err TooManyLetters) v = ⊥
+
+-- what a thing without an answer shows, by what comes of it
+abbrev pub unanswered : Result (Unit {0}) Stop → Shown
+unanswered (Ok _) = Ok None
+unanswered (Err stop) = Err stop
+
 -- what a tick or a letter shows, by what the world says of it
 abbrev pub stops : Result (Unit {0}) CannotHappen → Shown
 stops (Ok _) = Ok None
@@ -30,13 +42,11 @@ stops (Err e) = Err (Bad (Impossible e))
 abbrev pub one_thing : ℕ → Result (Unit {0}) CannotHappen → Shown
 one_thing n done = pick (n == 0) (Err BudgetSpent) (stops done)
 
--- what is handed to an office as a call: as the world has it, where the budget is not spent
+-- what is handed to an office as a call, and shows its answer
 abbrev pub Counted : ℕ → List Exchange → (Result Answer CannotHappen → List Exchange → Type 0) → Shown → List Exchange → Type 0
-Counted n xs Happens (Ok (Some a)) ys = (0 < n) × Happens (Ok a) ys
+Counted n xs Happens (Ok (Some a)) ys = Spends n xs Happens (Ok a) ys
 Counted n xs Happens (Ok None) ys = ⊥
-Counted n xs Happens (Err (Bad t)) ys = (0 < n) × ((e : CannotHappen) × (t ≡ Impossible e) × Happens (Err e) ys)
-Counted n xs Happens (Err BudgetSpent) ys = (n ≡ 0) × (ys ≡ xs)
-Counted n xs Happens (Err TooManyLetters) ys = ⊥
+Counted n xs Happens (Err stop) ys = Spends n xs Happens (Err stop) ys
 
 -- each line, with what is left of the budget and the journal after it. No letter is sent in this stage: none can
 -- come, and where all of them do, nothing happens

@@ -3,3 +3,4 @@ pub mod Cut
 pub mod Happen
 pub mod Report
 pub mod Texts
+pub mod Program

@@ -7,10 +7,9 @@ use Rattle.player.specs.Limits.{most_played_letters, small}
 use Rattle.player.specs.declared.trouble.Stop.{Stop}
 use Rattle.player.specs.declared.trouble.Stop.TheVariants.{BudgetSpent, TooManyLetters, Bad}
 use Rattle.player.specs.declared.trouble.Trouble.TheVariants.{Impossible}
-use Rattle.player.specs.declared.program.Program.{Program}
-use Rattle.player.specs.declared.program.Program.TheVariants.{Play, Locate}
+use Rattle.player.specs.declared.report.BadLine.{BadLine}
 use Rattle.player.specs.declared.report.End.{End}
-use Rattle.player.specs.declared.report.End.TheVariants.{Done, Stopped, Bad as BadLine}
+use Rattle.player.specs.declared.report.End.TheVariants.{Done, Stopped}
 use Rattle.player.specs.declared.report.Report.{Report}
 
 -- a world that is played is small, and nothing was said in it at the start
@@ -23,15 +22,15 @@ abbrev pub stop_line : ℕ → List ℕ → List ℕ
 stop_line most what = codes "stopped: more than " ++ (decimal most ++ (codes " " ++ (what ++ (10 ∷ []))))
 
 -- that line stands behind what was shown so far, unless there was no memory for it
-abbrev pub Stops : List ℕ → ℕ → List ℕ → End → List ℕ → Type 0
-Stops bytes line more Done all = ⊥
-Stops bytes line more Stopped all = all ≡ bytes ++ more
-Stops bytes line more (BadLine n t) all = (n ≡ line) × (t ≡ Impossible NoMemory)
+abbrev pub Stops : List ℕ → ℕ → List ℕ → Result End BadLine → List ℕ → Type 0
+Stops bytes line more (Ok Done) all = ⊥
+Stops bytes line more (Ok Stopped) all = all ≡ bytes ++ more
+Stops bytes line more (Err bad) all = bad ≡ record { line = line; trouble = Impossible NoMemory }
 
 -- the report of a run that ended so at this line, after it showed these bytes
 abbrev pub Concludes : Result (Unit {0}) Stop → ℕ → ℕ → List ℕ → Report → Type 0
-Concludes (Ok _) line budget bytes r = (r.end ≡ Done) × (string_bytes r.shown ≡ bytes)
-Concludes (Err (Bad t)) line budget bytes r = (r.end ≡ BadLine line t) × (string_bytes r.shown ≡ bytes)
+Concludes (Ok _) line budget bytes r = (r.end ≡ Ok Done) × (string_bytes r.shown ≡ bytes)
+Concludes (Err (Bad t)) line budget bytes r = (r.end ≡ Err (record { line = line; trouble = t })) × (string_bytes r.shown ≡ bytes)
 Concludes (Err BudgetSpent) line budget bytes r = Stops bytes line (stop_line budget (codes "things happened")) r.end (string_bytes r.shown)
 Concludes (Err TooManyLetters) line budget bytes r =
     Stops bytes line (stop_line most_played_letters (codes "letters were sent")) r.end (string_bytes r.shown)
@@ -43,8 +42,3 @@ Reports budget r = (ran : Result (Unit {0}) Stop) × (line : ℕ) × (bytes : Li
 -- the report of some run that showed nothing but, where it stopped, why
 abbrev pub ReportsNothing : ℕ → Report → Type 0
 ReportsNothing budget r = (ran : Result (Unit {0}) Stop) × (line : ℕ) × Concludes ran line budget [] r
-
--- what a program is called
-abbrev pub program_name : Program → List ℕ
-program_name Play = codes "play"
-program_name Locate = codes "locate"

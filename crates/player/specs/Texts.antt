@@ -1,8 +1,9 @@
 -- What is said of a bad line.
-use Rattle.std.specs.Prelude.{ℕ, List, codes}
+use Rattle.std.specs.Prelude.{ℕ, List, ◌++◌, codes, decimal}
 use Rattle.lines.specs.Faults.{fault_text}
 use Rattle.world.specs.declared.CannotHappen.{CannotHappen}
 use Rattle.world.specs.declared.CannotHappen.TheVariants.{BadLimits, NoOffice, NoSuchCall, NeverGiven, NeverSent, NoMemory}
+use Rattle.player.specs.declared.report.BadLine.{BadLine}
 use Rattle.player.specs.declared.trouble.Trouble.{Trouble}
 use Rattle.player.specs.declared.trouble.Trouble.TheVariants.{Unread, NotOpened, OpenedAgain, Impossible}
 
@@ -21,3 +22,7 @@ trouble_text (Unread fault) = fault_text fault
 trouble_text NotOpened = codes "expected a line such as '3 offices, 8 parcels' first"
 trouble_text OpenedAgain = codes "the offices are open already"
 trouble_text (Impossible e) = impossible_text e
+
+-- the same behind the number of the line
+abbrev pub bad_line_text : BadLine → List ℕ
+bad_line_text bad = decimal bad.line ++ (codes ": " ++ trouble_text bad.trouble)

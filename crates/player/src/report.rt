@@ -1,11 +1,12 @@
 // What playing a world file comes to, as text.
-ghost use Rattle.std.specs.Prelude.{◌≡◌, [], ◌∷◌, ◌++◌, IfOk, string_bytes, MatchResult};
+ghost use Rattle.std.specs.Prelude.{◌≡◌, [], ◌∷◌, ◌++◌, Some, IfOk, string_bytes, MatchResult};
 ghost use Rattle.answers.specs.Texts.{answer_text};
 ghost use Rattle.world.specs.declared.CannotHappen.TheVariants.{NoMemory};
-ghost use Rattle.player.specs.declared.trouble.Stop.TheVariants.{Bad};
 ghost use Rattle.player.specs.declared.trouble.Trouble.TheVariants.{Impossible};
+ghost use Rattle.player.specs.declared.report.End.TheVariants.{Stopped};
 ghost use Rattle.player.specs.Limits.{small};
 ghost use Rattle.player.specs.Report.{Small, stop_line, Concludes, Reports, ReportsNothing};
+ghost use Rattle.player.specs.Texts.{bad_line_text};
 
 use crate::happen::{MAX_PLAYED_LETTERS, Player};
 use crate::split::Lines;
@@ -14,6 +15,7 @@ use answers::AnswerText;
 use lines::{Line, read_line};
 use parcels::Answer;
 use std::alloc::Global;
+use std::fmt;
 use std::fmt::Write;
 use world::{CannotHappen, World};
 
@@ -25,20 +27,34 @@ const MAX_PLAYED_OFFICES: u32 = 4;
 
 const MAX_PLAYED_PARCELS: u32 = 64;
 
-// How a file came to its end: all of it was done; or it stopped, since letters or things that happened were
-// too many; or a line is bad.
-#[derive(Drop)]
+// How a file without a bad line came to its end: all of it was done; or it stopped, since letters or things that
+// happened were too many.
+#[derive(Clone, Copy, Debug, PartialEq, Eq)]
 pub enum End {
     Done,
     Stopped,
-    Bad { line: u64, trouble: Trouble },
+}
+
+// A line at which a file came to its end, and what is wrong with it.
+#[derive(Drop)]
+pub struct BadLine {
+    pub line: u64,
+    pub trouble: Trouble,
+}
+
+impl fmt::Display for BadLine {
+    ghost output = { λ x. Some (bad_line_text x) };
+
+    fn fmt<W: fmt::Write>(&self, f: &mut fmt::Formatter<W>) -> fmt::Result {
+        write!(f, "{}: {}", self.line, self.trouble)
+    }
 }
 
 // What is shown of a file, and how it came to its end.
 #[derive(Drop)]
 pub struct Report {
     pub shown: String,
-    pub end: End,
+    pub end: Result<End, BadLine>,
 }
 
 // Whether a world is small enough to be played.
@@ -48,92 +64,107 @@ fn is_small(offices: u32, parcels: u32) -> bool
     offices <= MAX_PLAYED_OFFICES && parcels <= MAX_PLAYED_PARCELS
 }
 
-// Opens the world that the first line that is not blank asks for. None where there is no such line.
-fn open(heap: Global, lines: &mut Lines) -> Result<Option<World>, Stop>
-    ensures { IfOk result Small }
-{
-    while let Some(line) = lines.next() {
-        match read_line(heap, line)? {
-            Line::Blank => {}
-            Line::Opening { offices, parcels } => {
-                if !is_small(offices, parcels) {
-                    return Err(Stop::Bad(Trouble::Impossible(CannotHappen::BadLimits)));
-                }
-                return Ok(Some(World::open(heap, offices, parcels)?));
-            }
-            _ => return Err(Stop::Bad(Trouble::NotOpened)),
-        }
-    }
-    Ok(None)
-}
-
 // Writes an answer as a line.
-fn show(answer: Answer, shown: &mut String) -> Result<(), Stop>
-    ensures { MatchResult result (λ _. string_bytes shown.new ≡ string_bytes shown.old ++ (answer_text answer ++ (10 ∷ []))) (λ e. e ≡ Bad (Impossible NoMemory)) }
+fn show(answer: Answer, shown: &mut String) -> Result<(), Trouble>
+    ensures { MatchResult result (λ _. string_bytes shown.new ≡ string_bytes shown.old ++ (answer_text answer ++ (10 ∷ []))) (λ e. e ≡ Impossible NoMemory) }
 {
-    let Ok(()) = writeln!(shown, "{}", AnswerText(answer)) else {
-        return Err(Stop::Bad(Trouble::Impossible(CannotHappen::NoMemory)));
-    };
+    writeln!(shown, "{}", AnswerText(answer))?;
     Ok(())
 }
 
-// Lets happen what the lines say, and writes the answers.
-fn run(heap: Global, lines: &mut Lines, budget: u32, shown: &mut String) -> Result<(), Stop> {
-    let Some(world) = open(heap, lines)? else {
-        return Ok(());
-    };
-    let mut player = Player::new(world, budget);
-    while let Some(line) = lines.next() {
-        if let Some(answer) = player.happen(read_line(heap, line)?)? {
-            show(answer, shown)?;
+// Why a world stopped, as a line, where no line of its file is to blame: so the file ends.
+fn show_stop(what: &str, most: u32, shown: &mut String) -> Result<End, Trouble>
+    ensures { MatchResult result (λ end. (end ≡ Stopped) × (string_bytes shown.new ≡ string_bytes shown.old ++ stop_line most what.now)) (λ e. e ≡ Impossible NoMemory) }
+{
+    writeln!(shown, "stopped: more than {most} {what}")?;
+    Ok(End::Stopped)
+}
+
+// A world file that is played: the lines that are left, how many things may happen, and what is shown so far.
+#[derive(Drop)]
+struct Playing<'a> {
+    heap: Global,
+    lines: Lines<'a>,
+    budget: u32,
+    shown: String,
+}
+
+impl<'a> Playing<'a> {
+    fn new(heap: Global, file: &'a [u8], budget: u32) -> Playing<'a>
+        ensures { result.budget ≡ budget }
+    {
+        Playing {
+            heap,
+            lines: Lines::new(file),
+            budget,
+            shown: String::new(heap),
         }
-        player.count_letters()?;
     }
-    Ok(())
-}
 
-// Why a world stopped, as a line, where no line of its file is to blame.
-fn show_stop(what: &str, most: u32, shown: &mut String) -> Result<(), Stop>
-    ensures { MatchResult result (λ _. string_bytes shown.new ≡ string_bytes shown.old ++ stop_line most what.now) (λ e. e ≡ Bad (Impossible NoMemory)) }
-{
-    let Ok(()) = writeln!(shown, "stopped: more than {most} {what}") else {
-        return Err(Stop::Bad(Trouble::Impossible(CannotHappen::NoMemory)));
-    };
-    Ok(())
-}
+    // Opens the world that the first line that is not blank asks for. None where there is no such line.
+    fn open(&mut self) -> Result<Option<World>, Stop>
+        ensures world { IfOk result Small }
+        ensures budget { self.new.budget ≡ self.old.budget }
+    {
+        for line in &mut self.lines {
+            match read_line(self.heap, line)? {
+                Line::Blank => {}
+                Line::Opening { offices, parcels } => {
+                    if !is_small(offices, parcels) {
+                        return Err(CannotHappen::BadLimits.into());
+                    }
+                    return Ok(Some(World::open(self.heap, offices, parcels)?));
+                }
+                _ => return Err(Trouble::NotOpened.into()),
+            }
+        }
+        Ok(None)
+    }
 
-// The report of a run that ended so at this line, after these answers.
-fn conclude(ran: Result<(), Stop>, line: u64, budget: u32, mut shown: String) -> Report
-    ensures { Concludes ran line budget (string_bytes shown) result }
-{
-    let stopped = match ran {
-        Ok(()) => {
-            return Report {
-                shown,
-                end: End::Done,
-            };
+    // Lets happen what the lines say, and writes the answers.
+    fn run(&mut self) -> Result<(), Stop>
+        ensures { self.new.budget ≡ self.old.budget }
+    {
+        let Some(world) = self.open()? else {
+            return Ok(());
+        };
+        let mut player = Player::new(world, self.budget);
+        for line in &mut self.lines {
+            if let Some(answer) = player.happen(read_line(self.heap, line)?)? {
+                show(answer, &mut self.shown)?;
+            }
+            player.count_letters()?;
         }
-        Err(Stop::TooManyLetters) => {
-            show_stop("letters were sent", MAX_PLAYED_LETTERS, &mut shown)
+        Ok(())
+    }
+
+    // The report of a run that ended so at the line that was taken last.
+    fn conclude(mut self, ran: Result<(), Stop>) -> Report
+        ensures { Concludes ran self.entry.lines.taken self.entry.budget (string_bytes self.entry.shown) result }
+    {
+        let line = self.lines.number();
+        let end = match ran {
+            Ok(()) => Ok(End::Done),
+            Err(Stop::TooManyLetters) => {
+                show_stop("letters were sent", MAX_PLAYED_LETTERS, &mut self.shown)
+            }
+            Err(Stop::BudgetSpent) => { show_stop("things happened", self.budget, &mut self.shown) }
+            Err(Stop::Bad(trouble)) => Err(trouble),
+        };
+        Report {
+            shown: self.shown,
+            end: end.map_err(|trouble| BadLine { line, trouble }),
         }
-        Err(Stop::BudgetSpent) => show_stop("things happened", budget, &mut shown),
-        Err(stop) => Err(stop),
-    };
-    let end = match stopped {
-        Err(Stop::Bad(trouble)) => End::Bad { line, trouble },
-        _ => End::Stopped,
-    };
-    Report { shown, end }
+    }
 }
 
 // Plays a world file in which at most so many things happen: an answer for each call.
 pub fn play(heap: Global, file: &[u8], budget: u32) -> Report
     ensures { Reports budget result }
 {
-    let mut shown = String::new(heap);
-    let mut lines = Lines::new(file);
-    let ran = run(heap, &mut lines, budget, &mut shown);
-    conclude(ran, lines.number(), budget, shown)
+    let mut playing = Playing::new(heap, file, budget);
+    let ran = playing.run();
+    playing.conclude(ran)
 }
 
 // Plays a world file and tells of each parcel, in the order of keys, where it is by what was taken
@@ -141,8 +172,9 @@ pub fn play(heap: Global, file: &[u8], budget: u32) -> Report
 pub fn locate(heap: Global, file: &[u8], budget: u32) -> Report
     ensures { ReportsNothing budget result }
 {
-    let mut answers = String::new(heap);
-    let mut lines = Lines::new(file);
-    let ran = run(heap, &mut lines, budget, &mut answers);
-    conclude(ran, lines.number(), budget, String::new(heap))
+    let mut playing = Playing::new(heap, file, budget);
+    let ran = playing.run();
+    // the answers are not shown
+    playing.shown.clear();
+    playing.conclude(ran)
 }

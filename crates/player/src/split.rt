@@ -1,26 +1,14 @@
 // A text cut into its lines.
-ghost use Rattle.std.specs.Prelude.{◌≡◌, ℕ, ◌<◌, ◌≤◌, length, ◌≢◌, slice_index};
+ghost use Rattle.std.specs.Prelude.{◌≡◌, ◌<◌, length};
+ghost use Rattle.std.specs.Iterator.{at_most};
 ghost use Rattle.player.specs.Cut.{Cuts, FirstLine};
 
-// What is left of a text, and how many lines were taken from it.
+// What is left of a text, and how many lines were taken from it: the number of the last one is asked for when the
+// text is at its end, so it is counted here and not by `enumerate`.
 #[derive(Drop)]
 pub struct Lines<'a> {
     rest: &'a [u8],
     taken: u64,
-}
-
-// How many bytes stand before the first newline, or in all.
-fn line_len(text: &[u8]) -> usize
-    ensures within { result ≤ length text.now }
-    ensures before { (k : ℕ) → k < result → slice_index text.now k ≢ 10 }
-    ensures found { result < length text.now → slice_index text.now result ≡ 10 }
-{
-    for (i, b) in text.iter().enumerate() {
-        if *b == b'\n' {
-            return i;
-        }
-    }
-    text.len()
 }
 
 // The first line of a text that is not empty, and the rest of the text behind its newline.
@@ -28,11 +16,9 @@ fn first_line(text: &[u8]) -> (&[u8], &[u8])
     requires { 0 < length text.now }
     ensures { FirstLine text.now result.0.now result.1.now }
 {
-    let n = line_len(text);
-    if n < text.len() {
-        (&text[0..n], &text[n + 1..])
-    } else {
-        (text, &text[n..])
+    match text.iter().position(|b| *b == b'\n') {
+        Some(n) => (&text[..n], &text[n + 1..]),
+        None => (text, &[]),
     }
 }
 
@@ -52,11 +38,17 @@ impl<'a> Lines<'a> {
     {
         self.taken
     }
+}
 
-    // The next line, without its newline.
-    pub fn next(&mut self) -> Option<&'a [u8]>
-        ensures { Cuts self.old.rest.now self.old.taken result self.new.rest.now self.new.taken }
-    {
+// Each line, without its newline.
+impl<'a> Iterator for Lines<'a> {
+    type Item = &'a [u8];
+
+    ghost next_gives = { λ s r t. Cuts s.rest.now s.taken r t.rest.now t.taken };
+
+    ghost remaining = { λ s. at_most (length s.rest.now) };
+
+    fn next(&mut self) -> Option<&'a [u8]> {
         if self.rest.is_empty() {
             return None;
         }

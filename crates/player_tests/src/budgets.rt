@@ -1,14 +1,13 @@
 // How many things happen at most.
-use crate::shown::check_played;
+use crate::shown::check;
 use player::{BUDGET, play};
 use std::test::Fail;
 
 #[test]
 fn each_thing_is_counted(rt: HostRuntime) -> Result<(), Fail> {
-    check_played(
+    check(
         &rt,
-        rt.alloc(),
-        3,
+        |heap, file| play(heap, file, 3),
         &[
             (
                 b"3 offices, 8 parcels\nall clocks tick\n# all is spent now\nall letters come",

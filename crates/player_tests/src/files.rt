@@ -1,6 +1,6 @@
 // Files that can be played to their end, and files with a bad line.
-use crate::shown::{check_located, check_played};
-use player::BUDGET;
+use crate::shown::check;
+use player::{BUDGET, locate, play};
 use std::test::Fail;
 
 const NOT_OPENED: &str = "line 1: expected a line such as '3 offices, 8 parcels' first";
@@ -9,10 +9,9 @@ const LIMITS: &str = "line 1: expected 2 to 4 offices and at most 64 parcels";
 
 #[test]
 fn every_call_is_turned_away(rt: HostRuntime) -> Result<(), Fail> {
-    check_played(
+    check(
         &rt,
-        rt.alloc(),
-        BUDGET,
+        |heap, file| play(heap, file, BUDGET),
         &[
             (b"", ""),
             (b"# nothing\n\n", ""),
@@ -48,10 +47,9 @@ fn every_call_is_turned_away(rt: HostRuntime) -> Result<(), Fail> {
 // A call that comes as bytes is answered as that call; a row that is no call, by 1 at its place.
 #[test]
 fn rows_of_bytes(rt: HostRuntime) -> Result<(), Fail> {
-    check_played(
+    check(
         &rt,
-        rt.alloc(),
-        BUDGET,
+        |heap, file| play(heap, file, BUDGET),
         &[
             (
                 b"3 offices, 8 parcels\nat 0: bytes 0 2 0 0 0 50 0 0 0\nat 1: bytes 1 0 0 0 0 1 0 0 0\n",
@@ -87,10 +85,9 @@ fn rows_of_bytes(rt: HostRuntime) -> Result<(), Fail> {
 
 #[test]
 fn openings(rt: HostRuntime) -> Result<(), Fail> {
-    check_played(
+    check(
         &rt,
-        rt.alloc(),
-        BUDGET,
+        |heap, file| play(heap, file, BUDGET),
         &[
             (b"at 0: sums", NOT_OPENED),
             (b"all clocks tick", NOT_OPENED),
@@ -109,10 +106,9 @@ fn openings(rt: HostRuntime) -> Result<(), Fail> {
 
 #[test]
 fn what_cannot_happen(rt: HostRuntime) -> Result<(), Fail> {
-    check_played(
+    check(
         &rt,
-        rt.alloc(),
-        BUDGET,
+        |heap, file| play(heap, file, BUDGET),
         &[
             (
                 b"3 offices, 8 parcels\nat 2: sums\nat 3: sums\nat 0: sums",
@@ -156,10 +152,9 @@ fn what_cannot_happen(rt: HostRuntime) -> Result<(), Fail> {
 
 #[test]
 fn nothing_is_located(rt: HostRuntime) -> Result<(), Fail> {
-    check_located(
+    check(
         &rt,
-        rt.alloc(),
-        2,
+        |heap, file| locate(heap, file, 2),
         &[
             (
                 b"3 offices, 8 parcels\nat 0: accept for 2, 50\nat 0: sums\n",

@@ -1,5 +1,5 @@
 // A report as one text: what is shown, and behind it the bad line, if there is one.
-use player::{End, Report, locate, play};
+use player::Report;
 use std::alloc::{AllocError, Global};
 use std::process::Abort;
 use std::test::Fail;
@@ -7,34 +7,22 @@ use std::test::Fail;
 fn whole(heap: Global, report: Report) -> Result<String, AllocError> {
     let shown = report.shown;
     match report.end {
-        End::Done | End::Stopped => Ok(shown),
-        End::Bad { line, trouble } => format!(in heap; "{shown}line {line}: {trouble}"),
+        Ok(_) => Ok(shown),
+        Err(bad) => format!(in heap; "{shown}line {bad}"),
     }
 }
 
-// Each file is played with this budget, and its report compared.
-pub fn check_played(
-    rt: &impl Abort,
-    heap: Global,
-    budget: u32,
+// Checks that the report of each file is the text beside it. (What is given as a report is taken by `into`, as
+// `player::Program` does.)
+pub fn check<R: Into<Report>, F: Fn(Global, &[u8]) -> R>(
+    rt: &(impl Abort + AllocGlobal),
+    report: F,
     files: &[(&[u8], &str)],
-) -> Result<(), Fail> {
+) -> Result<(), Fail>
+    requires { F.IsAlwaysCallable report }
+{
     for (file, expected) in files {
-        let text = whole(heap, play(heap, file, budget))?;
-        assert_eq!(rt; text.as_str(), *expected);
-    }
-    Ok(())
-}
-
-// Each file is played for where its parcels are.
-pub fn check_located(
-    rt: &impl Abort,
-    heap: Global,
-    budget: u32,
-    files: &[(&[u8], &str)],
-) -> Result<(), Fail> {
-    for (file, expected) in files {
-        let text = whole(heap, locate(heap, file, budget))?;
+        let text = whole(rt.alloc(), report(rt.alloc(), file).into())?;
         assert_eq!(rt; text.as_str(), *expected);
     }
     Ok(())

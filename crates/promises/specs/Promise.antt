@@ -56,7 +56,7 @@ asks_for Sums p = false
 -- the same of a row of bytes
 abbrev pub row_asks_for : Reading → ℕ → Bool
 row_asks_for (Ok c) p = asks_for c p
-row_asks_for (Err k) p = false
+row_asks_for (Err e) p = false
 
 -- what was told of a parcel at an office so far: one more than the largest step, or 0 for none
 unfoldable pub told_so_far : List Said → ℕ → ℕ → ℕ
@@ -127,7 +127,7 @@ RightAnswer l xs o Sums a = RightOwn l xs o Sums a
 -- bytes that are no call are turned away as such, at the first byte that doesn't fit
 abbrev pub RightRow : Limits → List Said → ℕ → Reading → Answer → Type 0
 RightRow l xs o (Ok c) a = RightAnswer l xs o c a
-RightRow l xs o (Err k) a = a ≡ unreadable k
+RightRow l xs o (Err e) a = a ≡ unreadable e.place
 
 -- whatever happened before, each answer is right
 abbrev pub Right : Stage → Office → Type 0

@@ -85,13 +85,13 @@ IsSlipKnown Sums xs = Unit {0}
 -- the same of a row of bytes
 abbrev pub IsRowKnown : Reading → List Said → Type 0
 IsRowKnown (Ok c) xs = IsSlipKnown c xs
-IsRowKnown (Err place) xs = Unit {0}
+IsRowKnown (Err e) xs = Unit {0}
 
 -- a row of bytes is read as a call only if its fields can carry the call's values. Any place is let in for a row
 -- that is none, which is more than bytes can come to
 abbrev pub row_readable : Reading → Bool
 row_readable (Ok c) = readable c
-row_readable (Err place) = true
+row_readable (Err e) = true
 
 -- Everything that can happen, in any order: a row of bytes is handed to an office, with a slip, if it is a
 -- call with one, that was given out; a letter that was sent comes, now or late, again and again, or never; a
@@ -135,7 +135,7 @@ not_refused (Two m n) = true
 -- a call that was not refused was taken
 abbrev pub taken_by : ℕ → Reading → Answer → List Taken
 taken_by o (Ok c) a = pick (not_refused a) (record { at = o; call = c } ∷ []) []
-taken_by o (Err place) a = []
+taken_by o (Err e) a = []
 
 -- the calls that were taken, in the order in which they were
 unfoldable pub taken : List Said → List Taken

@@ -1,11 +1,9 @@
 -- What a row means after some words of memory were written.
-use Rattle.std.proofs.Common.{◌≡◌, ℕ, ◌+◌, ◌*◌, ◌/◌, ◌%◌, ◌<◌, ◌≤◌, Bool, true, false, ◌≢◌, List, length, get_or, set, sym, refl, ap, ◌∙◌, ⊎_elim, arith, lit<, rules}
+use Rattle.std.proofs.Common.{◌≡◌, ℕ, ◌+◌, ◌*◌, ◌/◌, ◌%◌, ◌<◌, ◌≤◌, Bool, ◌≢◌, List, length, get_or, set, sym, ap, ◌∙◌, arith, lit<, rules}
 use borrow.Rule.Slice.PartMut.{put_mid}
-use Rattle.std.proofs.lemmas.List.{places, length-set, get_or-set_same, get_or-set_other}
-use Rattle.std.proofs.lemmas.Bool.{cases_lt}
+use Rattle.std.proofs.lemmas.List.{places, get_or-set_same, get_or-set_other}
 use Rattle.parcels.specs.Numbers.{four_bytes}
 use Rattle.parcels.specs.declared.Kind.{Kind}
-use Rattle.parcels.specs.declared.Kind.TheVariants.{Accepted, SentOn, ComeIn, HandedOut}
 use Rattle.parcels.specs.declared.Entry.{Entry}
 use Rattle.rows.specs.declared.Head.{Head}
 use Rattle.rows.specs.declared.Link.{Link}
@@ -16,46 +14,18 @@ pub same_entry : (m m' : List ℕ) (r : ℕ) → ((i : ℕ) → i < 7 → word m
 unfolding entry_at
 same_entry m m' r h = cc (h 0 (lit< tt), h 1 (lit< tt), h 2 (lit< tt), h 3 (lit< tt), h 4 (lit< tt), h 5 (lit< tt), h 6 (lit< tt))
 
-kind_back : (k : Kind) (p : Bool) → kind_marked (marks_of k p) ≡ k
-kind_back Accepted true = refl
-kind_back Accepted false = refl
-kind_back SentOn true = refl
-kind_back SentOn false = refl
-kind_back ComeIn true = refl
-kind_back ComeIn false = refl
-kind_back HandedOut true = refl
-kind_back HandedOut false = refl
-
-paid_back : (k : Kind) (p : Bool) → paid_marked (marks_of k p) ≡ p
-paid_back Accepted true = refl
-paid_back Accepted false = refl
-paid_back SentOn true = refl
-paid_back SentOn false = refl
-paid_back ComeIn true = refl
-paid_back ComeIn false = refl
-paid_back HandedOut true = refl
-paid_back HandedOut false = refl
-
-step_back : (n : ℕ) → n % four_bytes + four_bytes * (n / four_bytes) ≡ n
-step_back n = omega arith
+-- an entry's marks mean its kind of step, and whether it was paid
+marks_back : (k : Kind) (p : Bool) → (kind_marked (marks_of k p) ≡ k) × (paid_marked (marks_of k p) ≡ p)
+marks_back k p = grind arith
 
 -- an entry's words mean that entry
 pub entry_back : (m : List ℕ) (r : ℕ) (e : Entry) → ((i : ℕ) → i < 7 → word m r i ≡ get_or (entry_words e) i 0) → entry_at m r ≡ e
 unfolding entry_at
 entry_back m r e h =
+    let (kind, paid) = marks_back e.kind e.paid in
+    let step : e.step % four_bytes + four_bytes * (e.step / four_bytes) ≡ e.step = omega arith in
     let by_fields : entry_at m r ≡ record { key = e.key; step = e.step; kind = e.kind; to = e.to; dest = e.dest; amount = e.amount; paid = e.paid } =
-    cc (
-      h 0 (lit< tt),
-      h 1 (lit< tt),
-      h 2 (lit< tt),
-      h 3 (lit< tt),
-      h 4 (lit< tt),
-      h 5 (lit< tt),
-      h 6 (lit< tt),
-      kind_back e.kind e.paid,
-      paid_back e.kind e.paid,
-      step_back e.step,
-    ) in
+    cc (h 0 (lit< tt), h 1 (lit< tt), h 2 (lit< tt), h 3 (lit< tt), h 4 (lit< tt), h 5 (lit< tt), h 6 (lit< tt)) in
     by_fields
 
 -- what a part that was written holds, and what lies outside it
@@ -70,10 +40,13 @@ pub same_head : (m m' : List ℕ) → word m' 0 0 ≡ word m 0 0 → word m' 0 1
 unfolding head_at
 same_head m m' p a = cc
 
--- no link stands among the words of an entry
-link_elsewhere : (row r : ℕ) (right : Bool) → row_words * row ≤ link_word (record { row = r; right = right }) → link_word (record { row = r; right = right }) < row_words * row + 7 → ⊥
-link_elsewhere row r true p q = omega arith
-link_elsewhere row r false p q = omega arith
+-- a link's place is among the words of its row behind the entry
+link_place : (l : Link) → (row_words * l.row + 7 ≤ link_word l) × (link_word l < row_words * l.row + 9)
+link_place l = grind arith
+
+-- two links at one place are one link
+same_link : (k l : Link) → link_word k ≡ link_word l → k ≡ l
+same_link k l e = grind arith
 
 -- a write within the words of an entry
 pub entry_written : (m m' : List ℕ) (row : ℕ) (e : Entry) →
@@ -83,7 +56,7 @@ entry_written m m' row e words rest =
     record {
       entry = entry_back m' row e words;
       others = λ r ne. same_entry m m' r (λ i h. rest (row_words * r + i) (λ p q. ne (omega arith)));
-      links = λ l. rest (link_word l) (λ p q. link_elsewhere row l.row l.right p q);
+      links = λ l. rest (link_word l) (λ p q. let place = link_place l in omega arith);
       head = λ one. same_head m m' (rest 0 (λ p q. omega arith)) (rest 1 (λ p q. omega arith));
       rest = rest;
     }
@@ -94,33 +67,19 @@ entry_copied m ys row k e seven is room =
     let long : length ys ≡ k = ap length is ∙ sym seven in
     let fits : row_words * row + k ≤ length m = omega arith in
     entry_written m (put_mid (row_words * row) k m ys) row e
-    (λ i h. inside (row_words * row) k i m ys long fits (omega arith) ∙ ap (λ (zs : List ℕ). get_or zs i 0) is)
+    (λ i h. inside (row_words * row) k i m ys long fits (omega arith) ∙ (cc))
     (λ i out. outside (row_words * row) k m ys long fits i (λ p q. out p (omega arith)))
-
--- two links at one place are one link
-same_link : (r q : ℕ) (s t : Bool) → link_word (record { row = r; right = s }) ≡ link_word (record { row = q; right = t }) →
-    ◌≡◌ {A = Link} (record { row = r; right = s }) (record { row = q; right = t })
-same_link r q true true e = ap (λ (n : ℕ). record { row = n; right = true }) (omega arith)
-same_link r q true false e = absurd (omega arith)
-same_link r q false true e = absurd (omega arith)
-same_link r q false false e = ap (λ (n : ℕ). record { row = n; right = false }) (omega arith)
-
--- a link's place is among the words of its row behind the entry
-link_place : (r : ℕ) (right : Bool) →
-    (row_words * r + 7 ≤ link_word (record { row = r; right = right })) × (link_word (record { row = r; right = right }) < row_words * r + 9)
-link_place r true = (omega arith, omega arith)
-link_place r false = (omega arith, omega arith)
 
 -- one word was written at a link's place
 pub link_set : (m : List ℕ) (l : Link) (at to : ℕ) → at ≡ link_word l → words_for l.row ≤ length m → LinkWritten m (set m at to) l to
 unfolding link_at
 link_set m l at to e room =
-    let place = link_place l.row l.right in
+    let place = link_place l in
     let below : at < length m = omega arith in
     let rest : (i : ℕ) → i ≢ at → get_or (set m at to) i 0 ≡ get_or m i 0 = λ i ne. get_or-set_other m at i to 0 ne in
     record {
-      link = ap (λ i. get_or (set m at to) i 0) (sym e) ∙ get_or-set_same m at to 0 below;
-      others = λ k ne. rest (link_word k) (λ p. ne (same_link k.row l.row k.right l.right (p ∙ e)));
+      link = rw (← e) (get_or-set_same m at to 0 below);
+      others = λ k ne. rest (link_word k) (λ p. ne (same_link k l (p ∙ e)));
       entries = λ r. same_entry m (set m at to) r (λ i h. rest (row_words * r + i) (λ p. omega arith));
       head = same_head m (set m at to) (rest 0 (λ p. omega arith)) (rest 1 (λ p. omega arith));
       rest = λ i out. rest i (λ p. out (omega arith) (omega arith));
@@ -133,14 +92,13 @@ head_set m h room =
     let m₁ : List ℕ = set m 0 h.parcels in
     let m₂ : List ℕ = set m₁ 1 h.accepted in
     let rest : (i : ℕ) → 2 ≤ i → get_or m₂ i 0 ≡ get_or m i 0 =
-    λ i two. get_or-set_other m₁ 1 i h.accepted 0 (λ p. omega arith) ∙ get_or-set_other m 0 i h.parcels 0 (λ p. omega arith) in
-    let first : get_or m₂ 0 0 ≡ h.parcels =
-    get_or-set_other m₁ 1 0 h.accepted 0 (λ p. omega arith) ∙ get_or-set_same m 0 h.parcels 0 (omega arith) in
-    let second : get_or m₂ 1 0 ≡ h.accepted = get_or-set_same m₁ 1 h.accepted 0 (simp length-set (omega arith)) in
+    λ i two. search (rules, places) in
+    let first : get_or m₂ 0 0 ≡ h.parcels = search (rules, places) in
+    let second : get_or m₂ 1 0 ≡ h.accepted = search (rules, places) in
     let counts : head_at m₂ ≡ record { parcels = h.parcels; accepted = h.accepted } = cc in
     record {
       head = counts;
       entries = λ r one. same_entry m m₂ r (λ i _. rest (row_words * r + i) (omega arith));
-      links = λ l. rest (link_word l) (let place = link_place l.row l.right in omega arith);
-      rest = λ i out. rest i (⊎_elim (λ low. absurd (out (omega arith) low)) (λ high. high) (cases_lt i 2));
+      links = λ l. rest (link_word l) (let place = link_place l in omega arith);
+      rest = λ i out. rest i (grind (arith, out));
     }

@@ -1,6 +1,6 @@
 -- What an office's memory means: words of four bytes, in rows. Row 0 is the head; each later row has one parcel, in
 -- the order in which they came.
-use Rattle.std.specs.Prelude.{◌≡◌, ℕ, ◌+◌, ◌*◌, ◌/◌, ◌%◌, ◌<◌, ◌≤◌, Bool, not, ◌≢◌, List, [], ◌∷◌, map, ◌==◌, bit_and, bit_or, slice_index}
+use Rattle.std.specs.Prelude.{◌≡◌, ℕ, ◌+◌, ◌*◌, ◌/◌, ◌%◌, ◌<◌, ◌≤◌, Bool, not, ◌≢◌, List, [], ◌∷◌, map, ◌==◌, bit_and, bit_or, slice_index, Option, Some, None}
 use Rattle.std.specs.List.{range_with_len}
 use Rattle.parcels.specs.Numbers.{four_bytes, kind_number}
 use Rattle.parcels.specs.Book.{pick, Book}
@@ -61,6 +61,10 @@ link_word l = row_words * l.row + pick l.right 8 7
 -- the row that a link leads to, or 0 for none
 unfoldable pub link_at : List ℕ → Link → ℕ
 link_at m l = slice_index m (link_word l)
+
+-- the row that such a number names, or none
+abbrev pub row_named : ℕ → Option ℕ
+row_named n = pick (n == 0) None (Some n)
 
 -- the counts in the head
 unfoldable pub head_at : List ℕ → Head

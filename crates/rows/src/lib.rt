@@ -1,9 +1,11 @@
-// An office's memory as rows of words: the only place that knows which word means what.
+// An office's memory as rows of words: the only place that knows which word means what. Rows know one another by
+// number, since the memory is lent words: there is no heap to hold boxes. Each function asks that the row which it is
+// given lies in memory: a type for such a row would ask the same where one is made.
 #![tactic(auto)]
 
-ghost use Rattle.std.specs.Prelude.{◌≡◌, ℕ, ◌+◌, ◌*◌, ◌<◌, ◌≤◌, length};
+ghost use Rattle.std.specs.Prelude.{◌≡◌, ℕ, ◌+◌, ◌*◌, ◌<◌, ◌≤◌, length, unwrap_or};
 ghost use Rattle.parcels.specs.Numbers.{words_a_parcel, words_more};
-ghost use Rattle.rows.specs.Layout.{words_for, kind_marked, paid_marked, marks_of, entry_words, entry_at, link_word, link_at, head_at, EntryWritten, LinkWritten, HeadWritten};
+ghost use Rattle.rows.specs.Layout.{words_for, kind_marked, paid_marked, marks_of, entry_words, entry_at, link_word, link_at, row_named, head_at, EntryWritten, LinkWritten, HeadWritten};
 
 use parcels::{Entry, Kind};
 
@@ -14,7 +16,8 @@ pub struct Head {
     pub accepted: u32,
 }
 
-// One of a row's two places for the number of another row.
+// One of a row's two places for the number of another row. `right` is a bit of a key, as the search comes to it: an
+// enum of two sides would say no more.
 #[derive(Clone, Copy)]
 pub struct Link {
     pub row: u32,
@@ -27,6 +30,14 @@ impl Link {
         row: 0,
         right: false,
     };
+
+    // The place of its word in memory.
+    fn word(self) -> usize
+        ensures { result ≡ link_word self }
+    {
+        let place = if self.right { RIGHT } else { LEFT };
+        ROW_WORDS * self.row as usize + place
+    }
 }
 
 const ROW_WORDS: usize = 24;
@@ -51,6 +62,9 @@ const LEFT: usize = 7;
 
 const RIGHT: usize = 8;
 
+// A link's word where it leads nowhere.
+const NO_ROW: u32 = 0;
+
 // The words of an entry are the first of its row.
 const ENTRY_WORDS: usize = 7;
 
@@ -64,7 +78,8 @@ const KIND_BITS: u32 = 3;
 
 const PAID_BIT: u32 = 4;
 
-// A step's two words: the high one counts so many.
+// So many values a word has: the high word of a step counts so many of the low one. (std takes a number apart into
+// bytes, not into words.)
 const WORD_END: u64 = 4_294_967_296;
 
 // How many words of memory a limit of parcels asks for.
@@ -78,12 +93,8 @@ pub fn words_for(parcels: u32) -> usize
 fn kind_of(marks: u32) -> Kind
     ensures { result ≡ kind_marked marks }
 {
-    match marks & KIND_BITS {
-        0 => Kind::Accepted,
-        1 => Kind::SentOn,
-        2 => Kind::ComeIn,
-        _ => Kind::HandedOut,
-    }
+    // two bits are a number below 4, and each of those is a kind's
+    Kind::try_from(u64::from(marks & KIND_BITS)).unwrap()
 }
 
 fn is_paid(marks: u32) -> bool
@@ -93,6 +104,7 @@ fn is_paid(marks: u32) -> bool
 }
 
 // The entry of a row.
+#[tactic(auto, unfolding(crate::specs::Layout::entry_at))]
 pub fn read_entry(memory: &[u32], row: u32) -> Entry
     requires { words_for row ≤ length memory.now }
     ensures { result ≡ entry_at memory.now row }
@@ -111,6 +123,7 @@ pub fn read_entry(memory: &[u32], row: u32) -> Entry
 }
 
 // The key in a row.
+#[tactic(auto, unfolding(crate::specs::Layout::entry_at))]
 pub fn read_key(memory: &[u32], row: u32) -> u32
     requires { words_for row ≤ length memory.now }
     ensures { result ≡ (entry_at memory.now row).key }
@@ -122,7 +135,7 @@ fn marks(kind: Kind, paid: bool) -> u32
     ensures { result ≡ marks_of kind paid }
 {
     let paid_bit = if paid { PAID_BIT } else { 0 };
-    u32::from(kind.number()) | paid_bit
+    u32::from(u8::from(kind)) | paid_bit
 }
 
 fn entry_words(entry: Entry) -> [u32; ENTRY_WORDS]
@@ -148,30 +161,29 @@ pub fn write_entry(memory: &mut [u32], row: u32, entry: Entry)
     memory[at..at + ENTRY_WORDS].copy_from_slice(&entry_words(entry));
 }
 
-fn link_word(link: Link) -> usize
-    ensures { result ≡ link_word link }
-{
-    let place = if link.right { RIGHT } else { LEFT };
-    ROW_WORDS * link.row as usize + place
-}
-
-// The row that a link leads to, or 0 for none.
-pub fn read_link(memory: &[u32], link: Link) -> u32
+// The row that a link leads to.
+#[tactic(auto, unfolding(crate::specs::Layout::link_at))]
+pub fn read_link(memory: &[u32], link: Link) -> Option<u32>
     requires { words_for link.row ≤ length memory.now }
-    ensures { result ≡ link_at memory.now link }
+    ensures { result ≡ row_named (link_at memory.now link) }
 {
-    memory[link_word(link)]
+    match memory[link.word()] {
+        NO_ROW => None,
+        row => Some(row),
+    }
 }
 
-// Leads a link to a row.
-pub fn write_link(memory: &mut [u32], link: Link, row: u32)
+// Leads a link to a row, or nowhere. Row 0 is the head, to which no link leads: it counts as none, so that no caller
+// has to rule it out, as for a NonZeroU32.
+pub fn write_link(memory: &mut [u32], link: Link, row: Option<u32>)
     requires { words_for link.row ≤ length memory.old }
-    ensures { LinkWritten memory.old memory.new link row }
+    ensures { LinkWritten memory.old memory.new link (unwrap_or row 0) }
 {
-    memory[link_word(link)] = row;
+    memory[link.word()] = row.unwrap_or(NO_ROW);
 }
 
 // The counts in the head.
+#[tactic(auto, unfolding(crate::specs::Layout::head_at))]
 pub fn read_head(memory: &[u32]) -> Head
     requires { words_for 0 ≤ length memory.now }
     ensures { result ≡ head_at memory.now }

@@ -15,7 +15,6 @@ const TOO_LARGE: &str = "a number that four bytes can't hold";
 fn beginnings(rt: HostRuntime) -> Result<(), Fail> {
     check_lines(
         &rt,
-        rt.alloc(),
         &[
             (b"office 0: sums", A_LINE),
             (b"At 0: sums", A_LINE),
@@ -44,7 +43,6 @@ fn beginnings(rt: HostRuntime) -> Result<(), Fail> {
 fn calls(rt: HostRuntime) -> Result<(), Fail> {
     check_lines(
         &rt,
-        rt.alloc(),
         &[
             (b"at 0: accept 2, 50", "expected 'for'"),
             (b"at 0: accept for", "expected a number"),
@@ -80,7 +78,6 @@ fn calls(rt: HostRuntime) -> Result<(), Fail> {
 fn other_lines(rt: HostRuntime) -> Result<(), Fail> {
     check_lines(
         &rt,
-        rt.alloc(),
         &[
             (b"3", "expected 'offices'"),
             (b"3 parcels, 8 offices", "expected 'offices'"),
@@ -114,7 +111,6 @@ fn other_lines(rt: HostRuntime) -> Result<(), Fail> {
 fn numbers(rt: HostRuntime) -> Result<(), Fail> {
     check_lines(
         &rt,
-        rt.alloc(),
         &[
             (b"at 0: slip 4294967296", TOO_LARGE),
             (b"at 0: slip 4294967300", TOO_LARGE),
@@ -139,7 +135,6 @@ fn edges_of_classes(rt: HostRuntime) -> Result<(), Fail> {
     let end = "expected the end of the line";
     check_lines(
         &rt,
-        rt.alloc(),
         &[
             (b"ata 0: sums", A_LINE),
             (b"atz 0: sums", A_LINE),

@@ -6,7 +6,6 @@ use std::test::Fail;
 fn calls(rt: HostRuntime) -> Result<(), Fail> {
     check_lines(
         &rt,
-        rt.alloc(),
         &[
             (b"at 1: accept for 2, 50", "at=1 accept dest=2 amount=50"),
             (b"at 2: send 3 to 4", "at=2 send key=3 to=4"),
@@ -28,7 +27,6 @@ fn calls(rt: HostRuntime) -> Result<(), Fail> {
 fn other_lines(rt: HostRuntime) -> Result<(), Fail> {
     check_lines(
         &rt,
-        rt.alloc(),
         &[
             (b"3 offices, 8 parcels", "offices=3 parcels=8"),
             (b"at 1: bytes 9 0 10 255", "at=1 bytes=[9, 0, 10, 255]"),
@@ -53,7 +51,6 @@ fn other_lines(rt: HostRuntime) -> Result<(), Fail> {
 fn blanks_between_tokens(rt: HostRuntime) -> Result<(), Fail> {
     check_lines(
         &rt,
-        rt.alloc(),
         &[
             (b"at 2: sums\r", "at=2 sums"),
             (b"\t at\t2\r : \tsums  ", "at=2 sums"),
@@ -72,7 +69,6 @@ fn blanks_between_tokens(rt: HostRuntime) -> Result<(), Fail> {
 fn numbers(rt: HostRuntime) -> Result<(), Fail> {
     check_lines(
         &rt,
-        rt.alloc(),
         &[
             (b"at 0: slip 4294967295", "at=0 slip key=4294967295"),
             (b"at 4294967295: pay 1", "at=4294967295 pay key=1"),

@@ -1,5 +1,5 @@
 -- What a row of bytes is read as: the bytes of an answer tell which it is, and no row has two readings.
-use Rattle.std.proofs.Common.{◌≡◌, ℕ, true, List, [], ◌∷◌, length, get_or, drop, Some, None, Option, sym, refl, ap, ◌∙◌, subst, arith}
+use Rattle.std.proofs.Common.{◌≡◌, ℕ, true, List, [], ◌∷◌, length, get_or, drop, Some, None, Option, sym, refl, ap, ◌∙◌, subst, arith, rules}
 use Rattle.std.proofs.lemmas.Bool.Decides.{nat_tests}
 use Rattle.parcels.specs.Numbers.{eight_bytes, all_below, kind_number, reason_number, answer_number, answer_values}
 use Rattle.parcels.specs.declared.Kind.{Kind}
@@ -12,24 +12,20 @@ use Rattle.parcels.specs.declared.Refusal.{Refusal}
 use Rattle.parcels.specs.declared.Answer.{Answer}
 use Rattle.parcels.specs.declared.Answer.TheVariants.{Refused, Number, Given, At, NothingHeard, Two}
 use Rattle.wire.specs.Layout.{answer_bytes}
-use Rattle.wire.specs.Answers.{fits, two_fits, two_values, ReadsAnswer, ReadsWritten, ReadsPart, Tagged}
+use Rattle.wire.specs.Answers.{fits, one_fits, ReadsAnswer, ReadsWritten, ReadsPart, Tagged}
 use Rattle.wire.proofs.Values.{same_values}
-use Rattle.wire.proofs.Fields.{refusal_small, step_small, slip_small}
+use Rattle.wire.specs.Carried.{none_fit, none_values, one_values, pair_fits, pair_values}
+use Rattle.wire.specs.CarriedLaws.{refusal_small, step_small, slip_small}
 
 -- how many values the answer with this number has
 abbrev value_count : ℕ → ℕ
 value_count k = get_or (2 ∷ (1 ∷ (6 ∷ (3 ∷ (0 ∷ (2 ∷ [])))))) k 0
 
 count_values : (a : Answer) → length (answer_values a) ≡ value_count (answer_number a)
-count_values (Refused refusal) = refl
-count_values (Number n) = refl
-count_values (Given slip) = refl
-count_values (At step) = refl
-count_values NothingHeard = refl
-count_values (Two m n) = refl
+count_values a = search rules
 
 -- what is not two numbers is no answer of two
-pub no_two : (part : List ℕ) → ReadsPart two_fits two_values part None → Tagged 5 part None
+pub no_two : (part : List ℕ) → ReadsPart (pair_fits one_fits one_fits) (pair_values one_values one_values) part None → Tagged 5 part None
 no_two part none (Refused r) number small e = absurd (omega arith)
 no_two part none (Number n) number small e = absurd (omega arith)
 no_two part none (Given s) number small e = absurd (omega arith)
@@ -37,39 +33,32 @@ no_two part none (At s) number small e = absurd (omega arith)
 no_two part none NothingHeard number small e = absurd (omega arith)
 no_two part none (Two m n) number small e = none (m, n) small e
 
+-- what is not empty is no answer that carries nothing
+pub no_rest : (part : List ℕ) → ReadsPart none_fit none_values part None → Tagged 4 part None
+no_rest part some (Refused r) number small e = absurd (omega arith)
+no_rest part some (Number n) number small e = absurd (omega arith)
+no_rest part some (Given s) number small e = absurd (omega arith)
+no_rest part some (At s) number small e = absurd (omega arith)
+no_rest part some NothingHeard number small e = some tt small e
+no_rest part some (Two m n) number small e = absurd (omega arith)
+
 -- an answer's values fit eight bytes each
 answer_small : (a : Answer) → fits a ≡ true → all_below eight_bytes (answer_values a) ≡ true
-answer_small (Refused refusal) h = refusal_small refusal h
-answer_small (Number n) h = grind (arith, nat_tests)
-answer_small (Given slip) h = slip_small slip h
-answer_small (At step) h = step_small step h
-answer_small NothingHeard h = refl
-answer_small (Two m n) h = grind (arith, nat_tests)
+answer_small a h = grind (arith, nat_tests, refusal_small, step_small, slip_small)
 
 reason_of : ℕ → Reason
 reason_of k = get_or (Unreadable ∷ (Unreadable ∷ (OutOfRange ∷ (BadOpening ∷ (NotHere ∷ (WrongSlip ∷ (OtherOffice ∷ (NothingToPay ∷ (PaidAlready ∷ []))))))))) k OverLimit
 
 reason_again : (r : Reason) → reason_of (reason_number r) ≡ r
 unfolding reason_of
-reason_again Unreadable = refl
-reason_again OutOfRange = refl
-reason_again BadOpening = refl
-reason_again NotHere = refl
-reason_again WrongSlip = refl
-reason_again OtherOffice = refl
-reason_again NothingToPay = refl
-reason_again PaidAlready = refl
-reason_again OverLimit = refl
+reason_again r = search rules
 
 kind_of : ℕ → Kind
 kind_of k = get_or (Accepted ∷ (SentOn ∷ (ComeIn ∷ []))) k HandedOut
 
 kind_again : (k : Kind) → kind_of (kind_number k) ≡ k
 unfolding kind_of
-kind_again Accepted = refl
-kind_again SentOn = refl
-kind_again ComeIn = refl
-kind_again HandedOut = refl
+kind_again k = search rules
 
 -- the answer with this number and these values
 answer_of : ℕ → List ℕ → Answer

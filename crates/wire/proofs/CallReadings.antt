@@ -1,14 +1,17 @@
 -- What a row of bytes is read as: the bytes of a call tell which it is, and no row has two readings.
-use Rattle.std.proofs.Common.{◌≡◌, ℕ, suc, ◌*◌, ◌<◌, ◌≤◌, min, true, List, [], ◌∷◌, ◌++◌, length, get_or, take, drop, Ok, Err, sym, refl, ap, ◌∙◌, subst, inl, inr, arith}
-use Rattle.std.proofs.lemmas.List.{append-nil, length-append, length-take-le, take-append-drop, take-take, take_all, take-append-le, get_or-take, get_or_append_left}
+use Rattle.std.proofs.Common.{◌≡◌, ℕ, zero, suc, ◌*◌, ◌<◌, ◌≤◌, min, true, List, [], ◌∷◌, ◌++◌, length, get_or, take, drop, replicate, Ok, Err, sym, refl, ap, ◌∙◌, subst, inl, inr, arith, rules}
+use Rattle.std.proofs.lemmas.List.{append-nil, nil_from_length, drop_all, length-append, length-replicate, length-take-le, take-append-drop, take-take, take_all, take-append-le, get_or-take, get_or_append_left}
+use Rattle.std.proofs.lemmas.List.Elements.{All-take, All-append, All-replicate}
+use Rattle.std.specs.List.{All}
 use Rattle.std.proofs.lemmas.Bool.{cases_lt}
-use Rattle.parcels.specs.Numbers.{call_number, call_values}
+use Rattle.parcels.specs.Numbers.{four_bytes, all_below, call_number, call_values}
 use Rattle.parcels.specs.declared.Slip.{Slip}
 use Rattle.parcels.specs.declared.Call.{Call}
 use Rattle.parcels.specs.declared.Call.TheVariants.{Accept, Send, SlipAgain, TakeIn, HandOut, Pay, WhereIs, Here, Sums}
-use Rattle.wire.specs.Layout.{most_call_bytes, readable, call_bytes}
-use Rattle.wire.specs.Calls.{Reading, IsCall, FitsUntil, Reads, ReadsWritten}
-use Rattle.wire.proofs.Values.{length_in_row, same_values}
+use Rattle.wire.specs.Layout.{in_row, readable, call_bytes}
+use Rattle.wire.specs.declared.call.UnreadableCall.{UnreadableCall}
+use Rattle.wire.specs.Calls.{Reading, call_count, IsCall, FitsUntil, Reads, ReadsWritten, Tagged}
+use Rattle.wire.proofs.Values.{length_in_row, same_values, values_of, values_held, next_value}
 
 -- how many values the call with this number has
 field_count : ℕ → ℕ
@@ -16,15 +19,7 @@ field_count k = get_or (2 ∷ (2 ∷ (1 ∷ (6 ∷ (1 ∷ (1 ∷ (1 ∷ (1 ∷ [
 
 count_fields : (c : Call) → length (call_values c) ≡ field_count (call_number c)
 unfolding field_count
-count_fields (Accept dest amount) = refl
-count_fields (Send key to) = refl
-count_fields (SlipAgain key) = refl
-count_fields (TakeIn slip) = refl
-count_fields (HandOut key) = refl
-count_fields (Pay key) = refl
-count_fields (WhereIs key) = refl
-count_fields (Here from) = refl
-count_fields Sums = refl
+count_fields c = search rules
 
 -- the call with this number and these values
 call_of : ℕ → List ℕ → Call
@@ -35,18 +30,7 @@ call_of k vs =
 
 call_again : (c : Call) → call_of (call_number c) (call_values c) ≡ c
 unfolding call_of
-call_again (Accept dest amount) = refl
-call_again (Send key to) = refl
-call_again (SlipAgain key) = refl
-call_again (TakeIn slip) = refl
-call_again (HandOut key) = refl
-call_again (Pay key) = refl
-call_again (WhereIs key) = refl
-call_again (Here from) = refl
-call_again Sums = refl
-
-pub call_length : (c d : Call) → c ≡ d → suc (4 * length (call_values d)) ≡ length (call_bytes c)
-call_length c d e = sym (ap (λ x. length (call_bytes x)) e ∙ ap suc (length_in_row 4 (call_values d)))
+call_again c = search rules
 
 same_length : (c d : Call) → call_number c ≡ call_number d → length (call_bytes c) ≡ length (call_bytes d)
 same_length c d e =
@@ -65,12 +49,15 @@ same_call c d fits small e =
 not_below : (row : List ℕ) (j k : ℕ) → FitsUntil row j → FitsUntil row k → k ≤ j
 not_below row j k f g = elim (cases_lt j k) [ inl h ↦ absurd (f.no_longer k h g.within g.begins) | inr h ↦ h ]
 
+abbrev pub unreadable_at : ℕ → UnreadableCall
+unreadable_at k = record { place = k }
+
 -- no row has two readings
 pub one_reading : (row : List ℕ) (r s : Reading) → Reads row r → Reads row s → r ≡ s
 one_reading row (Ok c) (Ok d) (fits, e) (small, f) = ap Ok (same_call c d fits small (sym e ∙ f))
-one_reading row (Ok c) (Err k) r (none, f) = absurd (none c r)
-one_reading row (Err k) (Ok c) (none, f) r = absurd (none c r)
-one_reading row (Err j) (Err k) (_, f) (_, g) = ap Err (let a = not_below row j k f g in let b = not_below row k j g f in omega arith)
+one_reading row (Ok c) (Err _) r (none, f) = absurd (none c r)
+one_reading row (Err _) (Ok c) (none, f) r = absurd (none c r)
+one_reading row (Err d) (Err e) (_, f) (_, g) = ap (λ (k : ℕ). Err (unreadable_at k)) (let a = not_below row d.place e.place f g in let b = not_below row e.place d.place g f in omega arith)
 
 pub reads_written : (row : List ℕ) (r : Reading) → Reads row r → ReadsWritten row r
 reads_written row r reads c fits = (λ e. one_reading row r (Ok c) reads (fits, e), λ e. (subst (λ (s : Reading). Reads row s) e reads).1)
@@ -107,50 +94,108 @@ fits_until row c k a =
           omega (arith, a.far, ap length e, length-append (take j row) rest, length-take-le j row within);
     }
 
-is_call : (row : List ℕ) (c : Call) (k : ℕ) → Agree row c k → length row ≡ length (call_bytes c) → IsCall row c
-is_call row c k a e =
-    (a.fits, sym (take_all k row (omega (arith, a.far))) ∙ a.same ∙ take_all k (call_bytes c) (omega (arith, a.far)))
-
 no_call : (row : List ℕ) (c : Call) (k : ℕ) → Agree row c k → (length row ≡ length (call_bytes c) → ⊥) → (d : Call) → IsCall row d → ⊥
 no_call row c k a differ d (_, e) =
     differ
     (ap length e
     ∙ as_long row [] c d (length row) k a (omega (arith, ap length e)) (omega arith) (sym e ∙ all_of row))
 
--- what a row is, by the bytes of its front, which are made as long as the longest call
-module _ (row front : List ℕ) (room : length front ≡ most_call_bytes) (same : take (length row) front ≡ take most_call_bytes row) where
-  agree : (c : Call) (rest : List ℕ) (k : ℕ) → readable c ≡ true → front ≡ call_bytes c ++ rest → k ≡ min (length row) (length (call_bytes c)) → Agree row c k
-  agree c rest k fits e far =
-      let short : length (call_bytes c) ≤ most_call_bytes = omega (arith, ap length e, length-append (call_bytes c) rest) in
+-- a row whose first byte no call has
+pub no_number : (row : List ℕ) → ((c : Call) → 0 < length row → call_number c ≡ get_or row 0 0 → ⊥) → Reads row (Err (unreadable_at 0))
+no_number row none =
+    let begins_none : (d : Call) (rest : List ℕ) (j : ℕ) → 0 < j → j ≤ length row → call_bytes d ≡ take j row ++ rest → ⊥ =
+    λ d rest j some within e. none d (omega arith) (number_first d row rest j some within e) in (
+      λ d (_, e). begins_none d [] (length row) (omega (arith, ap length e)) (omega arith) (sym e ∙ all_of row),
       record {
-        fits = fits;
-        far = far;
-        same =
-            sym (take-take k most_call_bytes row (omega arith))
-            ∙ ap (take k) (sym same)
-            ∙ take-take k (length row) front (omega arith)
-            ∙ ap (take k) e
-            ∙ take-append-le k (call_bytes c) rest (omega arith);
-      }
+        within = omega arith;
+        begins = (Sums, refl, (8 ∷ [], refl));
+        no_longer = λ j more within (d, _, (rest, e)). begins_none d rest j more within e;
+      },
+    )
 
-  pub a_call : (c : Call) (rest : List ℕ) (len : ℕ) → readable c ≡ true → front ≡ call_bytes c ++ rest → len ≡ length (call_bytes c) → length row ≡ len → Reads row (Ok c)
-  a_call c rest len fits e is long = is_call row c (length row) (agree c rest (length row) fits e (omega arith)) (long ∙ is)
+number_small : (c : Call) → call_number c < call_count
+number_small c = search rules
 
-  pub cut_or_longer : (c : Call) (rest : List ℕ) (len k : ℕ) → readable c ≡ true → front ≡ call_bytes c ++ rest → len ≡ length (call_bytes c) → (length row ≡ len → ⊥) → k ≡ min (length row) len → Reads row (Err k)
-  cut_or_longer c rest len k fits e is differ far =
-      let a : Agree row c k = agree c rest k fits e (far ∙ ap (min (length row)) is) in
-      (no_call row c k a (λ long. differ (long ∙ sym is)), fits_until row c k a)
+-- lists of so many values, value by value
+one_listed : (vs : List ℕ) → length vs ≡ 1 → vs ≡ get_or vs 0 0 ∷ []
+one_listed vs long = next_value vs 0 (omega arith) (drop_all 1 vs (omega arith))
 
-  pub no_number : ((c : Call) → call_number c ≡ get_or front 0 0 → ⊥) → Reads row (Err 0)
-  no_number none =
-      let first : 0 < length row → get_or row 0 0 ≡ get_or front 0 0 =
-      λ some. sym (get_or-take most_call_bytes row 0 0 (omega arith)) ∙ ap (λ bs. get_or bs 0 0) (sym same) ∙ get_or-take (length row) front 0 0 some in
-      let begins_none : (d : Call) (rest : List ℕ) (j : ℕ) → 0 < j → j ≤ length row → call_bytes d ≡ take j row ++ rest → ⊥ =
-      λ d rest j some within e. none d (number_first d row rest j some within e ∙ first (omega arith)) in (
-        λ d (_, e). begins_none d [] (length row) (omega (arith, ap length e)) (omega arith) (sym e ∙ all_of row),
-        record {
-          within = omega arith;
-          begins = (Sums, refl, (8 ∷ [], refl));
-          no_longer = λ j more within (d, _, (rest, e)). begins_none d rest j more within e;
-        },
-      )
+two_listed : (vs : List ℕ) → length vs ≡ 2 → vs ≡ get_or vs 0 0 ∷ (get_or vs 1 0 ∷ [])
+two_listed vs long = next_value vs 0 (omega arith) (next_value vs 1 (omega arith) (drop_all 2 vs (omega arith)))
+
+six_listed : (vs : List ℕ) → length vs ≡ 6 → vs ≡ get_or vs 0 0 ∷ (get_or vs 1 0 ∷ (get_or vs 2 0 ∷ (get_or vs 3 0 ∷ (get_or vs 4 0 ∷ (get_or vs 5 0 ∷ [])))))
+six_listed vs long =
+    next_value vs 0 (omega arith) (next_value vs 1 (omega arith) (next_value vs 2 (omega arith) (next_value vs 3 (omega arith) (next_value vs 4 (omega arith) (next_value vs 5 (omega arith) (drop_all 6 vs (omega arith)))))))
+
+-- some call has this number and these values
+some_call : (k : ℕ) (vs : List ℕ) → k < call_count → length vs ≡ field_count k → (c : Call) × (call_number c ≡ k) × (call_values c ≡ vs)
+unfolding field_count call_of
+some_call zero vs h long = (call_of 0 vs, refl, sym (two_listed vs long))
+some_call (suc zero) vs h long = (call_of 1 vs, refl, sym (two_listed vs long))
+some_call (suc (suc zero)) vs h long = (call_of 2 vs, refl, sym (one_listed vs long))
+some_call (suc (suc (suc zero))) vs h long = (call_of 3 vs, refl, sym (six_listed vs long))
+some_call (suc (suc (suc (suc zero)))) vs h long = (call_of 4 vs, refl, sym (one_listed vs long))
+some_call (suc (suc (suc (suc (suc zero))))) vs h long = (call_of 5 vs, refl, sym (one_listed vs long))
+some_call (suc (suc (suc (suc (suc (suc zero)))))) vs h long = (call_of 6 vs, refl, sym (one_listed vs long))
+some_call (suc (suc (suc (suc (suc (suc (suc zero))))))) vs h long = (call_of 7 vs, refl, sym (one_listed vs long))
+some_call (suc (suc (suc (suc (suc (suc (suc (suc zero)))))))) vs h long = (call_of 8 vs, refl, sym (nil_from_length vs long))
+some_call (suc (suc (suc (suc (suc (suc (suc (suc (suc k))))))))) vs h long = absurd (omega arith)
+
+-- a row that is cut off within the fields of a call, or goes on behind them, is none, and fits until there
+cut_or_longer : (c : Call) (body : List ℕ) (k : ℕ) → readable c ≡ true → (length body ≡ 4 * length (call_values c) → ⊥) → k ≡ suc (min (length body) (4 * length (call_values c)))
+    → take (min (length body) (4 * length (call_values c))) body ≡ take (min (length body) (4 * length (call_values c))) (in_row 4 (call_values c))
+    → Reads (call_number c ∷ body) (Err (unreadable_at k))
+cut_or_longer c body k fits differ far same =
+    let row : List ℕ = call_number c ∷ body in
+    let long : length (in_row 4 (call_values c)) ≡ 4 * length (call_values c) = length_in_row 4 (call_values c) in
+    let agreed : take k row ≡ take k (call_bytes c) = ap (λ j. take j row) far ∙ ap (λ rest. call_number c ∷ rest) same ∙ sym (ap (λ j. take j (call_bytes c)) far) in
+    let a : Agree row c k = record { fits = fits; far = omega arith; same = agreed } in
+    (no_call row c k a (λ e. differ (omega arith)), fits_until row c k a)
+
+-- the bytes of a body, filled up with zeros or cut to so many fields
+filled : ℕ → List ℕ → List ℕ
+filled n body = take (4 * n) (body ++ replicate (4 * n) 0)
+
+module _ (n : ℕ) (body : List ℕ) where
+  filled_length : length (filled n body) ≡ 4 * n
+  unfolding filled
+  filled_length =
+      let zeros : List ℕ = replicate (4 * n) 0 in
+      let count : length zeros ≡ 4 * n = length-replicate (4 * n) 0 in
+      length-take-le (4 * n) (body ++ zeros) (omega (arith, length-append body zeros, count))
+
+  filled_small : All (λ b. b < 256) body → All (λ b. b < 256) (filled n body)
+  unfolding filled
+  filled_small small = All-take (λ b. b < 256) (4 * n) (body ++ replicate (4 * n) 0) (All-append (λ b. b < 256) body (replicate (4 * n) 0) small (All-replicate (λ b. b < 256) (4 * n) 0 (omega arith)))
+
+  filled_front : (m : ℕ) → m ≤ 4 * n → m ≤ length body → take m (filled n body) ≡ take m body
+  unfolding filled
+  filled_front m low within = take-take m (4 * n) (body ++ replicate (4 * n) 0) low ∙ take-append-le m body (replicate (4 * n) 0) within
+
+-- the call with this number whose fields the body begins, or is begun by
+begun : (first : ℕ) (body : List ℕ) → first < call_count → All (λ b. b < 256) body
+    → (c : Call) × (call_number c ≡ first) × (readable c ≡ true) × (take (min (length body) (4 * length (call_values c))) body ≡ take (min (length body) (4 * length (call_values c))) (in_row 4 (call_values c)))
+begun first body h small =
+    let n : ℕ = field_count first in
+    let (long, low, held) = values_held 4 n (filled n body) (filled_length n body) (filled_small n body small) in
+    let (c, number, values) = some_call first (values_of 4 n (filled n body)) h long in
+    (c, number, ap (all_below four_bytes) values ∙ low, begun_by c body n values long held)
+  where
+    begun_by : (c : Call) (bs : List ℕ) (k : ℕ) → call_values c ≡ values_of 4 k (filled k bs) → length (values_of 4 k (filled k bs)) ≡ k → in_row 4 (values_of 4 k (filled k bs)) ≡ filled k bs
+        → take (min (length bs) (4 * length (call_values c))) bs ≡ take (min (length bs) (4 * length (call_values c))) (in_row 4 (call_values c))
+    begun_by c bs k values long held =
+        let m : ℕ = min (length bs) (4 * length (call_values c)) in
+        let count : length (call_values c) ≡ k = ap length values ∙ long in
+        sym (ap (take m) (ap (in_row 4) values ∙ held) ∙ filled_front k bs m (omega arith) (omega arith))
+
+-- what a row is, by its first byte and those behind it
+pub from_tagged : (first : ℕ) (body : List ℕ) (r : Reading) → All (λ b. b < 256) body → Tagged first body r → Reads (first ∷ body) r
+from_tagged first body (Ok c) small (number, fits, is) = (fits, ap (λ b. b ∷ body) (sym number) ∙ ap (λ rest. call_number c ∷ rest) is)
+from_tagged first body (Err d) small (place, unknown) =
+    elim (cases_lt first call_count) [
+      | inl h ↦
+          let (c, number, fits, same) = begun first body h small in
+          let (differ, far) = place c number in
+          subst (λ (b : ℕ). Reads (b ∷ body) (Err d)) number (cut_or_longer c body d.place fits differ far same)
+      | inr h ↦ subst (λ (j : ℕ). Reads (first ∷ body) (Err (unreadable_at j))) (sym (unknown h)) (no_number (first ∷ body) (λ c _ e. omega (arith, number_small c)))
+    ]

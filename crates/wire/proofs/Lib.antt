@@ -1,6 +1,7 @@
 mod Numbers
 mod Values
-pub mod CallReadings
 mod Writing
-mod Fields
+mod Arrays
+pub mod CallReadings
+mod Parts
 mod AnswerReadings

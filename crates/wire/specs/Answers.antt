@@ -1,5 +1,5 @@
 -- Which answer a row of bytes is; and how an answer is written.
-use Rattle.std.specs.Prelude.{◌≡◌, ℕ, ◌*◌, ◌<◌, ◌≤◌, Bool, true, ◌&&◌, List, [], ◌∷◌, length, Some, None, Option, ◌≢◌, nat_lt}
+use Rattle.std.specs.Prelude.{◌≡◌, ℕ, ◌<◌, ◌≤◌, Bool, true, ◌&&◌, List, [], ◌∷◌, length, Some, None, Option, ◌≢◌, nat_lt}
 use Rattle.parcels.specs.Numbers.{four_bytes, eight_bytes, all_below, answer_number, answer_values}
 use Rattle.parcels.specs.declared.Step.{Step}
 use Rattle.parcels.specs.declared.Slip.{Slip}
@@ -53,11 +53,6 @@ WritesAnswer a before after None = (length before < lent_for_answer) × (after �
 
 -- FOR THE READER'S OWN FUNCTIONS
 
--- the values, so many of eight bytes each, that a part of a row holds; none, where the part is not as long as they are
-abbrev pub Holds : ℕ → List ℕ → Option (List ℕ) → Type 0
-Holds n part (Some ns) = (length ns ≡ n) × (all_below eight_bytes ns ≡ true) × (part ≡ in_row 8 ns)
-Holds n part None = length part ≡ 8 * n → ⊥
-
 -- what the body of an answer is, by the values of each such thing and which of them fit
 abbrev pub ReadsPart : {X : Type 0} → (X → Bool) → (X → List ℕ) → List ℕ → Option X → Type 0
 ReadsPart can values part (Some x) = (can x ≡ true) × (part ≡ in_row 8 (values x))
@@ -66,18 +61,6 @@ ReadsPart {X} can values part None = (x : X) → can x ≡ true → part ≢ in_
 -- a number that eight bytes can carry
 abbrev pub one_fits : ℕ → Bool
 one_fits n = nat_lt n eight_bytes
-
--- the values of an answer that is one number
-abbrev pub one_values : ℕ → List ℕ
-one_values n = n ∷ []
-
--- two numbers that eight bytes each can carry
-abbrev pub two_fits : ℕ × ℕ → Bool
-two_fits p = nat_lt p.0 eight_bytes && nat_lt p.1 eight_bytes
-
--- the values of an answer that is two numbers
-abbrev pub two_values : ℕ × ℕ → List ℕ
-two_values p = p.0 ∷ (p.1 ∷ [])
 
 -- the answer with this first byte, its tag, by the body behind it
 abbrev pub Tagged : ℕ → List ℕ → Option Answer → Type 0

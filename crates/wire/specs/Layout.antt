@@ -1,5 +1,5 @@
 -- Calls and answers as bytes: a first byte that says which it is, and then its values, low byte first.
-use Rattle.std.specs.Prelude.{◌≡◌, ℕ, zero, suc, ◌/◌, ◌%◌, Bool, List, [], ◌∷◌, ◌++◌, length, drop}
+use Rattle.std.specs.Prelude.{◌≡◌, ℕ, zero, suc, ◌*◌, ◌/◌, ◌%◌, ◌^◌, Bool, true, List, [], ◌∷◌, ◌++◌, length, drop, Some, None, Option, ◌≢◌}
 use Rattle.parcels.specs.Numbers.{four_bytes, all_below, call_number, call_values, answer_number, answer_values}
 use Rattle.parcels.specs.declared.Call.{Call}
 use Rattle.parcels.specs.declared.Answer.{Answer}
@@ -39,3 +39,11 @@ answer_bytes a = answer_number a ∷ in_row 8 (answer_values a)
 pub record Written (bytes before after : List ℕ) (n : ℕ) : Type 0 where
   pub count : n ≡ length bytes
   pub filled : after ≡ bytes ++ drop n before
+
+-- FOR THE READERS' OWN FUNCTIONS
+
+-- the values, so many of so many bytes each, that a part of a row holds; none, where the part is not as long as they
+-- are
+abbrev pub Holds : ℕ → ℕ → List ℕ → Option (List ℕ) → Type 0
+Holds w n part (Some ns) = (length ns ≡ n) × (all_below (256 ^ w) ns ≡ true) × (part ≡ in_row w ns)
+Holds w n part None = length part ≢ w * n

@@ -1,132 +1,94 @@
 // Calls as bytes.
-ghost use Rattle.std.specs.Prelude.{◌≡◌, suc, ◌*◌, ◌<◌, min, true, length, take};
-ghost use Rattle.parcels.specs.Numbers.{four_bytes, all_below, slip_values, call_values};
-ghost use Rattle.wire.specs.Layout.{most_call_bytes, in_row, readable};
-ghost use Rattle.wire.specs.Calls.{StartsWith, Reads, ReadsWritten, OnlyReading, Writes};
+ghost use Rattle.std.specs.Prelude.{◌≡◌, ◌*◌, ◌<◌};
+ghost use Rattle.wire.specs.Layout.{readable};
+ghost use Rattle.wire.specs.Calls.{refused_row, ReadsFields, Tagged, Reads, ReadsWritten, OnlyReading, Writes};
 
-use crate::number::{FIELD_END, read_u32, write_u32};
-use parcels::{Call, Slip};
+use crate::carried::{Fields, write_row};
+use crate::number::read_numbers;
+use parcels::{Call, Reason, Refusal};
 
 // The longest call: its first byte and a slip's six fields.
 pub const MAX_CALL_BYTES: usize = 25;
 
-// The slip that 24 bytes hold, as a call has it: each number in four bytes.
-fn read_slip(part: &[u8]) -> Slip
-    requires { length part.now ≡ 24 }
-    ensures fits { all_below four_bytes (slip_values result) ≡ true }
-    ensures bytes { part.now ≡ in_row 4 (slip_values result) }
-{
-    Slip {
-        key: read_u32(&part[0..4]),
-        step: u64::from(read_u32(&part[4..8])),
-        from: read_u32(&part[8..12]),
-        to: read_u32(&part[12..16]),
-        dest: read_u32(&part[16..20]),
-        amount: read_u32(&part[20..24]),
+// A row of bytes that is no call: the place of its first byte that doesn't fit.
+#[derive(Clone, Copy, Debug, PartialEq, Eq)]
+pub struct UnreadableCall {
+    pub place: u64,
+}
+
+impl From<UnreadableCall> for Refusal {
+    ghost from_gives = { λ e refusal. refusal ≡ refused_row e };
+
+    fn from(e: UnreadableCall) -> Refusal {
+        Refusal {
+            reason: Reason::Unreadable,
+            place: e.place,
+        }
     }
 }
 
-// The call with which the bytes start.
-fn first_call(bytes: &[u8]) -> Option<Call>
-    requires { length bytes.now ≡ most_call_bytes }
-    ensures { StartsWith bytes.now result }
+// What the bytes behind a call's first one carry, in fields of four bytes each; or the place where the row ceases to
+// be so.
+fn read_fields<T: Fields<N>, const N: usize>(body: &[u8]) -> Result<T, UnreadableCall>
+    ensures { ReadsFields T.values N body.now result }
 {
-    Some(match bytes[0] {
-        0 => Call::Accept {
-            dest: read_u32(&bytes[1..5]),
-            amount: read_u32(&bytes[5..9]),
-        },
-        1 => Call::Send {
-            key: read_u32(&bytes[1..5]),
-            to: read_u32(&bytes[5..9]),
-        },
+    let cut = UnreadableCall {
+        place: 1 + body.len().min(4 * N) as u64,
+    };
+    let numbers = read_numbers::<4, N>(body).ok_or(cut)?;
+    T::from_numbers(numbers).ok_or(cut)
+}
+
+// The call with this first byte, by the bytes behind it.
+fn read_tagged(first: u8, body: &[u8]) -> Result<Call, UnreadableCall>
+    ensures { Tagged first body.now result }
+{
+    Ok(match first {
+        0 => {
+            let (dest, amount) = read_fields(body)?;
+            Call::Accept { dest, amount }
+        }
+        1 => {
+            let (key, to) = read_fields(body)?;
+            Call::Send { key, to }
+        }
         2 => Call::SlipAgain {
-            key: read_u32(&bytes[1..5]),
+            key: read_fields(body)?,
         },
         3 => Call::TakeIn {
-            slip: read_slip(&bytes[1..25]),
+            slip: read_fields(body)?,
         },
         4 => Call::HandOut {
-            key: read_u32(&bytes[1..5]),
+            key: read_fields(body)?,
         },
         5 => Call::Pay {
-            key: read_u32(&bytes[1..5]),
+            key: read_fields(body)?,
         },
         6 => Call::WhereIs {
-            key: read_u32(&bytes[1..5]),
+            key: read_fields(body)?,
         },
         7 => Call::Here {
-            from: read_u32(&bytes[1..5]),
+            from: read_fields(body)?,
         },
-        8 => Call::Sums,
-        _ => return None,
+        8 => {
+            let () = read_fields(body)?;
+            Call::Sums
+        }
+        _ => return Err(UnreadableCall { place: 0 }),
     })
-}
-
-// How many bytes a call has.
-fn call_len(call: Call) -> usize
-    ensures { result ≡ suc (4 * length (call_values call)) }
-{
-    match call {
-        Call::Accept { .. } => 9,
-        Call::Send { .. } => 9,
-        Call::SlipAgain { .. } => 5,
-        Call::TakeIn { .. } => 25,
-        Call::HandOut { .. } => 5,
-        Call::Pay { .. } => 5,
-        Call::WhereIs { .. } => 5,
-        Call::Here { .. } => 5,
-        Call::Sums => 1,
-    }
-}
-
-// How many bytes at the front of a row a call with so many bytes can have.
-fn fitting(row: &[u8], len: usize) -> usize
-    ensures { result ≡ min (length row.now) len }
-{
-    row.len().min(len)
-}
-
-// The front of a row, filled up to the length of the longest call where it is shorter; with what doesn't matter.
-fn padded(row: &[u8]) -> [u8; MAX_CALL_BYTES]
-    ensures len { length result ≡ most_call_bytes }
-    ensures front { take (length row.now) result ≡ take most_call_bytes row.now }
-{
-    let mut front = [0; MAX_CALL_BYTES];
-    let len = row.len().min(MAX_CALL_BYTES);
-    front[0..len].copy_from_slice(&row[0..len]);
-    front
 }
 
 // Which call a row of bytes is; or the place of its first byte that doesn't fit, where the longest front that
 // some call begins with ends.
-pub fn read_call(row: &[u8]) -> Result<Call, u64>
+pub fn read_call(row: &[u8]) -> Result<Call, UnreadableCall>
     ensures value { Reads row.now result }
     ensures written { ReadsWritten row.now result }
     ensures only { OnlyReading row.now result }
 {
-    let Some(call) = first_call(&padded(row)) else {
-        return Err(0);
+    let Some((first, body)) = row.split_first() else {
+        return Err(UnreadableCall { place: 0 });
     };
-    let len = call_len(call);
-    if row.len() != len {
-        return Err(fitting(row, len) as u64);
-    }
-    Ok(call)
-}
-
-// Writes a slip as a call has it, into 24 bytes.
-fn write_slip(slip: Slip, part: &mut [u8])
-    requires room { length part.old ≡ 24 }
-    requires fits { slip.step < four_bytes }
-    ensures { part.new ≡ in_row 4 (slip_values slip) }
-{
-    write_u32(slip.key, &mut part[0..4]);
-    write_u32(slip.step as u32, &mut part[4..8]);
-    write_u32(slip.from, &mut part[8..12]);
-    write_u32(slip.to, &mut part[12..16]);
-    write_u32(slip.dest, &mut part[16..20]);
-    write_u32(slip.amount, &mut part[20..24]);
+    read_tagged(*first, body)
 }
 
 // Whether the fields of a call, four bytes each, can carry its values: all but a slip's step always fit.
@@ -134,7 +96,7 @@ fn is_readable(call: Call) -> bool
     ensures { result ≡ readable call }
 {
     match call {
-        Call::TakeIn { slip } => slip.step < FIELD_END,
+        Call::TakeIn { slip } => u32::try_from(slip.step).is_ok(),
         _ => true,
     }
 }
@@ -147,24 +109,16 @@ pub fn write_call(call: Call, out: &mut [u8]) -> Option<usize>
     if out.len() < MAX_CALL_BYTES || !is_readable(call) {
         return None;
     }
-    let len = call_len(call);
-    out[0] = call.number();
-    match call {
-        Call::Accept { dest, amount } => {
-            write_u32(dest, &mut out[1..5]);
-            write_u32(amount, &mut out[5..9]);
-        }
-        Call::Send { key, to } => {
-            write_u32(key, &mut out[1..5]);
-            write_u32(to, &mut out[5..9]);
-        }
-        Call::SlipAgain { key } => write_u32(key, &mut out[1..5]),
-        Call::TakeIn { slip } => write_slip(slip, &mut out[1..25]),
-        Call::HandOut { key } => write_u32(key, &mut out[1..5]),
-        Call::Pay { key } => write_u32(key, &mut out[1..5]),
-        Call::WhereIs { key } => write_u32(key, &mut out[1..5]),
-        Call::Here { from } => write_u32(from, &mut out[1..5]),
-        Call::Sums => {}
-    }
-    Some(len)
+    let first = call.number();
+    Some(match call {
+        Call::Accept { dest, amount } => write_row::<4, _, _>(first, (dest, amount), out),
+        Call::Send { key, to } => write_row::<4, _, _>(first, (key, to), out),
+        Call::TakeIn { slip } => write_row::<4, _, _>(first, slip, out),
+        Call::SlipAgain { key }
+        | Call::HandOut { key }
+        | Call::Pay { key }
+        | Call::WhereIs { key } => write_row::<4, _, _>(first, key, out),
+        Call::Here { from } => write_row::<4, _, _>(first, from, out),
+        Call::Sums => write_row::<4, _, _>(first, (), out),
+    })
 }

@@ -2,8 +2,9 @@
 #![tactic(auto)]
 
 pub use answer::{ANSWER_BYTES, read_answer, write_answer};
-pub use call::{MAX_CALL_BYTES, read_call, write_call};
+pub use call::{MAX_CALL_BYTES, UnreadableCall, read_call, write_call};
 
 mod answer;
 mod call;
+mod carried;
 mod number;

@@ -1,89 +1,89 @@
 // Each answer beside its bytes. The bytes of a number differ, and so do the numbers of an answer.
-use crate::lent::{LENT, check_written};
+use crate::lent::check_written;
 use parcels::{Answer, Kind, Reason, Refusal, Slip, Step};
 use std::process::Abort;
 use wire::{read_answer, write_answer};
 
 pub fn check_answers(rt: &impl Abort) {
-    check_table(
-        rt,
-        &[
-            (
-                Answer::Refused(Refusal {
-                    reason: Reason::WrongSlip,
-                    place: 0x0807060504030201,
-                }),
-                b"\x00\
+    let table: &[(Answer, &[u8])] = &[
+        (
+            Answer::Refused(Refusal {
+                reason: Reason::WrongSlip,
+                place: 0x0807060504030201,
+            }),
+            b"\x00\
                   \x05\x00\x00\x00\x00\x00\x00\x00\
                   \x01\x02\x03\x04\x05\x06\x07\x08",
-            ),
-            (
-                Answer::Number(0x0807060504030201),
-                b"\x01\
+        ),
+        (
+            Answer::Number(0x0807060504030201),
+            b"\x01\
                   \x01\x02\x03\x04\x05\x06\x07\x08",
-            ),
-            // a slip in an answer may have a step that none in a call can have
-            (
-                Answer::Given(Slip {
-                    key: 0x04030201,
-                    step: 0x0c0b0a0908070605,
-                    from: 0x100f0e0d,
-                    to: 0x14131211,
-                    dest: 0x18171615,
-                    amount: 0x1c1b1a19,
-                }),
-                b"\x02\
+        ),
+        // a slip in an answer may have a step that none in a call can have
+        (
+            Answer::Given(Slip {
+                key: 0x04030201,
+                step: 0x0c0b0a0908070605,
+                from: 0x100f0e0d,
+                to: 0x14131211,
+                dest: 0x18171615,
+                amount: 0x1c1b1a19,
+            }),
+            b"\x02\
                   \x01\x02\x03\x04\x00\x00\x00\x00\
                   \x05\x06\x07\x08\x09\x0a\x0b\x0c\
                   \x0d\x0e\x0f\x10\x00\x00\x00\x00\
                   \x11\x12\x13\x14\x00\x00\x00\x00\
                   \x15\x16\x17\x18\x00\x00\x00\x00\
                   \x19\x1a\x1b\x1c\x00\x00\x00\x00",
-            ),
-            (
-                Answer::At(Step {
-                    number: 0x0807060504030201,
-                    kind: Kind::ComeIn,
-                    office: 0x0c0b0a09,
-                }),
-                b"\x03\
+        ),
+        (
+            Answer::At(Step {
+                number: 0x0807060504030201,
+                kind: Kind::ComeIn,
+                office: 0x0c0b0a09,
+            }),
+            b"\x03\
                   \x01\x02\x03\x04\x05\x06\x07\x08\
                   \x02\x00\x00\x00\x00\x00\x00\x00\
                   \x09\x0a\x0b\x0c\x00\x00\x00\x00",
-            ),
-            (Answer::NothingHeard, b"\x04"),
-            (
-                Answer::Two(0x0807060504030201, 0x100f0e0d0c0b0a09),
-                b"\x05\
+        ),
+        (Answer::NothingHeard, b"\x04"),
+        (
+            Answer::Two(0x0807060504030201, 0x100f0e0d0c0b0a09),
+            b"\x05\
                   \x01\x02\x03\x04\x05\x06\x07\x08\
                   \x09\x0a\x0b\x0c\x0d\x0e\x0f\x10",
-            ),
-            // the least and the largest values
-            (
-                Answer::Two(0, 0xffffffffffffffff),
-                b"\x05\
+        ),
+        // the least and the largest values
+        (
+            Answer::Two(0, 0xffffffffffffffff),
+            b"\x05\
                   \x00\x00\x00\x00\x00\x00\x00\x00\
                   \xff\xff\xff\xff\xff\xff\xff\xff",
-            ),
-            (
-                Answer::Given(Slip {
-                    key: 0xffffffff,
-                    step: 0xffffffffffffffff,
-                    from: 0xffffffff,
-                    to: 0xffffffff,
-                    dest: 0xffffffff,
-                    amount: 0xffffffff,
-                }),
-                b"\x02\
+        ),
+        (
+            Answer::Given(Slip {
+                key: 0xffffffff,
+                step: 0xffffffffffffffff,
+                from: 0xffffffff,
+                to: 0xffffffff,
+                dest: 0xffffffff,
+                amount: 0xffffffff,
+            }),
+            b"\x02\
                   \xff\xff\xff\xff\x00\x00\x00\x00\
                   \xff\xff\xff\xff\xff\xff\xff\xff\
                   \xff\xff\xff\xff\x00\x00\x00\x00\
                   \xff\xff\xff\xff\x00\x00\x00\x00\
                   \xff\xff\xff\xff\x00\x00\x00\x00\
                   \xff\xff\xff\xff\x00\x00\x00\x00",
-            ),
-        ],
-    );
+        ),
+    ];
+    for (answer, bytes) in table {
+        check_answer(rt, *answer, bytes);
+    }
     check_reasons(rt);
     check_kinds(rt);
 }
@@ -135,27 +135,9 @@ fn check_kinds(rt: &impl Abort) {
     }
 }
 
-fn check_table(rt: &impl Abort, table: &[(Answer, &[u8])]) {
-    for (answer, bytes) in table {
-        check_answer(rt, *answer, bytes);
-    }
-}
-
 // The bytes are read as the answer, and the answer is written as the bytes, where more are lent too.
 fn check_answer(rt: &impl Abort, answer: Answer, bytes: &[u8]) {
     assert!(rt; read_answer(bytes) == Some(answer), "answer {bytes:?}");
-    let mut out = [LENT; 64];
-    assert_eq!(rt;
-        write_answer(answer, &mut out),
-        Some(bytes.len()),
-        "answer {bytes:?}"
-    );
-    check_written(rt, &out, bytes);
-    let mut out = [LENT; 70];
-    assert_eq!(rt;
-        write_answer(answer, &mut out),
-        Some(bytes.len()),
-        "answer {bytes:?}"
-    );
-    check_written(rt, &out, bytes);
+    check_written::<64, _>(rt, Some(bytes), |out| write_answer(answer, out));
+    check_written::<70, _>(rt, Some(bytes), |out| write_answer(answer, out));
 }

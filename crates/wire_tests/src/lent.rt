@@ -1,16 +1,32 @@
 // Bytes that are lent to be written into, and what is left of them.
+ghost use Rattle.std.specs.Prelude.{◌≤◌};
+
 use parcels::{Answer, Call, Slip};
 use std::process::Abort;
 use wire::{ANSWER_BYTES, MAX_CALL_BYTES, write_answer, write_call};
 
 // What each lent byte is before anything is written: a byte of no row in the tables, so that each write shows.
-pub const LENT: u8 = 0xee;
+const LENT: u8 = 0xee;
 
-// Checks that the bytes were written from the start on, and that each byte behind them stayed.
-pub fn check_written(rt: &impl Abort, out: &[u8], bytes: &[u8]) {
+// Checks that these bytes are written into so many lent ones, or that nothing can be written, and that each byte
+// behind what was written stayed.
+pub fn check_written<const LENT_BYTES: usize, F: FnOnce(&mut [u8]) -> Option<usize>>(
+    rt: &impl Abort,
+    wanted: Option<&[u8]>,
+    write: F,
+)
+    requires few { LENT_BYTES ≤ 70 }
+    requires callable { F.IsAlwaysCallable write }
+{
+    let mut out = [LENT; LENT_BYTES];
+    let written = write(&mut out);
+    assert_eq!(rt; written, wanted.map(|bytes| bytes.len()), "{wanted:?}");
+    let bytes = wanted.unwrap_or(b"");
+    let out = out.as_slice();
     assert!(rt; bytes.len() <= out.len(), "{bytes:?}");
-    assert_eq!(rt; &out[0..bytes.len()], bytes);
-    for byte in &out[bytes.len()..] {
+    let (front, behind) = out.split_at(bytes.len());
+    assert_eq!(rt; front, bytes);
+    for byte in behind {
         assert_eq!(rt; *byte, LENT, "behind {bytes:?}");
     }
 }
@@ -28,20 +44,12 @@ pub fn check_too_few(rt: &impl Abort) {
         amount: 5,
     };
     // a call's field can't carry this step, though 64 bytes are lent
-    let mut out = [LENT; 64];
-    assert_eq!(rt; write_call(Call::TakeIn { slip }, &mut out), None);
-    check_written(rt, &out, b"");
+    check_written::<64, _>(rt, None, |out| write_call(Call::TakeIn { slip }, out));
     // a call of one byte wants 25 lent as well
-    let mut out = [LENT; 24];
-    assert_eq!(rt; write_call(Call::Sums, &mut out), None);
-    check_written(rt, &out, b"");
+    check_written::<24, _>(rt, None, |out| write_call(Call::Sums, out));
+    check_written::<0, _>(rt, None, |out| write_call(Call::Sums, out));
     // an answer of one byte wants 64 lent as well
-    let mut out = [LENT; 63];
-    assert_eq!(rt; write_answer(Answer::NothingHeard, &mut out), None);
-    check_written(rt, &out, b"");
-    assert_eq!(rt; write_answer(Answer::Given(slip), &mut out), None);
-    check_written(rt, &out, b"");
-    let mut out = [LENT; 0];
-    assert_eq!(rt; write_call(Call::Sums, &mut out), None);
-    assert_eq!(rt; write_answer(Answer::NothingHeard, &mut out), None);
+    check_written::<63, _>(rt, None, |out| write_answer(Answer::NothingHeard, out));
+    check_written::<63, _>(rt, None, |out| write_answer(Answer::Given(slip), out));
+    check_written::<0, _>(rt, None, |out| write_answer(Answer::NothingHeard, out));
 }

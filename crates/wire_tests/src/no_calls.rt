@@ -1,10 +1,9 @@
 // Rows that are no call, each with the place where it ceases to be one.
-use std::alloc::Global;
 use std::process::Abort;
 use std::test::Fail;
-use wire::read_call;
+use wire::{UnreadableCall, read_call};
 
-pub fn check_no_calls(rt: &impl Abort, heap: Global) -> Result<(), Fail> {
+pub fn check_no_calls(rt: &(impl Abort + AllocGlobal)) -> Result<(), Fail> {
     check_places(
         rt,
         &[
@@ -76,14 +75,21 @@ pub fn check_no_calls(rt: &impl Abort, heap: Global) -> Result<(), Fail> {
     );
     // very long rows, of one byte each
     for (byte, place) in [(0, 9), (1, 9), (2, 5), (3, 25), (7, 5), (8, 1), (9, 0)] {
-        let row = vec![in heap; byte; 1_000_000]?;
-        assert!(rt; read_call(row.as_slice()) == Err(place), "many of {byte}");
+        let row = vec![in rt.alloc(); byte; 1_000_000]?;
+        assert!(rt;
+            read_call(row.as_slice()) == Err(UnreadableCall { place }),
+            "many of {byte}"
+        );
     }
     Ok(())
 }
 
 fn check_places(rt: &impl Abort, table: &[(&[u8], u64)]) {
     for (row, place) in table {
-        assert!(rt; read_call(row) == Err(*place), "{row:?} at {place}");
+        let place = *place;
+        assert!(rt;
+            read_call(row) == Err(UnreadableCall { place }),
+            "{row:?} at {place}"
+        );
     }
 }

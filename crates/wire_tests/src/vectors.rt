@@ -9,7 +9,7 @@ use std::test::Fail;
 #[test]
 fn vectors(rt: HostRuntime) -> Result<(), Fail> {
     check_calls(&rt);
-    check_no_calls(&rt, rt.alloc())?;
+    check_no_calls(&rt)?;
     check_answers(&rt);
     check_no_answers(&rt);
     check_too_few(&rt);

@@ -1,5 +1,5 @@
 -- In the stage in which nothing can be done: each answer is right, and what the offices do can happen.
-use Rattle.std.proofs.Common.{◌≡◌, ℕ, ◌<◌, Bool, true, false, cond, eqb, ltb, List, [], ◌∷◌, ◌++◌, Some, Ok, Err, Result, sym, refl, ap, ◌∙◌, subst, inr, arith, ltb-true}
+use Rattle.std.proofs.Common.{◌≡◌, ℕ, ◌<◌, Bool, true, false, cond, eqb, List, [], ◌∷◌, ◌++◌, Some, Ok, Err, sym, refl, ap, ◌∙◌, subst, inr}
 use mathlib.Core.Path.{fun_ext}
 use mathlib.Core.Logic.{∥∥₁_map}
 use Rattle.parcels.specs.Numbers.{call_number}
@@ -16,9 +16,6 @@ use Rattle.wire.specs.Calls.{Reading}
 use Rattle.promises.specs.World.{Memory, Said, World, Lived, called, opened, row_readable, IsRowKnown, with_memory}
 use Rattle.promises.specs.Promise.{RightAnswer, RightRow, RightPay, RightWhere}
 use Rattle.world.specs.declared.Exchange.{Exchange}
-use Rattle.world.specs.declared.CannotHappen.{CannotHappen}
-use Rattle.world.specs.declared.CannotHappen.TheVariants.{NoOffice}
-use Rattle.world.specs.Outcome.{at_office}
 use Rattle.world.specs.Ours.{ours, history, world_of}
 use Rattle.world.proofs.Journal.{said_of, history_push}
 
@@ -47,7 +44,7 @@ right l xs o Sums a g h = h _
 -- so is what a row of bytes is answered
 pub right_row : (l : Limits) (xs : List Said) (o : ℕ) (r : Reading) (a : Answer) → ((k : ℕ) → l.can k ≡ nothing k) → Answers l o r a → RightRow l xs o r a
 right_row l xs o (Ok c) a g h = right l xs o c a g h
-right_row l xs o (Err k) a g h = h
+right_row l xs o (Err e) a g h = h
 
 -- no office has memory, and so none after a change of one
 nowhere : (o : ℕ) → with_memory (λ q. []) o [] ≡ (λ q. [])
@@ -78,11 +75,3 @@ goes_on_if false n p o xs ys r a e there fits known h v = rw e v
 pub begins : (n p : ℕ) (xs : List Exchange) → xs ≡ [] → ∥ Lived ours (stage_limits n p) (world_of xs) ∥₁
 unfolding history
 begins n p xs e = rw e (∣ opened (λ o. []) (λ o h. refl) ∣₁)
-
--- an office at which something happens is there
-there_by : (t : Bool) (r : Result (Unit {0}) CannotHappen) (u : Unit {0}) → r ≡ Ok u → r ≡ pick t (Ok tt) (Err NoOffice) → t ≡ true
-there_by true r u d e = refl
-there_by false r u d e = let never : ◌≡◌ {A = ℕ} 0 1 = cc in absurd (omega arith)
-
-pub is_there : (n o : ℕ) (u : Unit {0}) → Ok u ≡ at_office n o → o < n
-is_there n o u e = ltb-true o n (there_by (ltb o n) (Ok u) u refl e)

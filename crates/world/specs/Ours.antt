@@ -1,7 +1,6 @@
 -- The office that runs, as everything that can happen takes it: what its contracts say.
-use Rattle.std.specs.Prelude.{◌≡◌, ℕ, List, [], ◌∷◌, ◌++◌}
+use Rattle.std.specs.Prelude.{◌≡◌, List, [], ◌∷◌, ◌++◌}
 use Rattle.office.specs.Answering.{Answers}
-use Rattle.office.specs.declared.Office.{Office as OpenOffice}
 use Rattle.promises.specs.World.{Office, Said, World}
 use Rattle.world.specs.declared.Exchange.{Exchange}
 
@@ -14,10 +13,6 @@ ours =
       Heard = λ l o m x n ls. (n ≡ m) × (ls ≡ []);
       Ticked = λ l o m n ls. (n ≡ m) × (ls ≡ []);
     }
-
--- an office opened with these limits
-abbrev pub office_at : ℕ → ℕ → ℕ → OpenOffice
-office_at offices own parcels = record { offices = offices; own = own; parcels = parcels }
 
 -- all that was said, the last first, by a journal that has the oldest first
 unfoldable pub history : List Exchange → List Said

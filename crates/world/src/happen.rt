@@ -1,27 +1,28 @@
 // The things that can happen in a world.
 ghost use Rattle.std.specs.Prelude.{◌≡◌, ◌<◌, Err, Decides};
-ghost use Rattle.parcels.specs.declared.Answer.TheVariants.{Given};
+ghost use Rattle.office.specs.Opening.{office_limits};
+ghost use Rattle.office.specs.Answering.{AnswersRow};
 ghost use Rattle.promises.specs.World.{IsGiven, IsRowKnown};
 ghost use Rattle.world.specs.declared.CannotHappen.TheVariants.{NeverSent};
 ghost use Rattle.world.specs.Ours.{history};
 ghost use Rattle.world.specs.Opening.{Opens};
-ghost use Rattle.world.specs.Outcome.{Asked, Came, Called, at_office};
+ghost use Rattle.world.specs.Outcome.{Came, Called, OfficeAt, at_office};
 ghost use Rattle.world.specs.View.{limits_of, journal_of};
 
 use crate::{CannotHappen, Exchange, World};
 use office::Office;
 use parcels::{Answer, Call, Slip};
 use std::alloc::Global;
-use wire::{ANSWER_BYTES, MAX_CALL_BYTES, read_answer, read_call, write_call};
+use wire::{ANSWER_BYTES, MAX_CALL_BYTES, UnreadableCall, read_answer, read_call, write_call};
 
-// Whether an answer gives this slip out.
-fn gives(answer: Answer, slip: Slip) -> bool
-    ensures { Decides result (answer ≡ Given slip) }
+// What an office answers to a row of bytes, read from the bytes that it writes. They are lent, so the count of those
+// that were written comes beside them: an office has no heap.
+fn ask(office: &Office, row: &[u8]) -> Answer
+    ensures { AnswersRow (office_limits office.now) office.now.opening.own row.now result }
 {
-    match answer {
-        Answer::Given(given) => given == slip,
-        _ => false,
-    }
+    let mut out = [0; ANSWER_BYTES];
+    let len = office.call(row, &mut out).unwrap();
+    read_answer(&out[..len]).unwrap()
 }
 
 impl World {
@@ -30,14 +31,12 @@ impl World {
         ensures { Opens offices parcels result }
     {
         let mut opened = Vec::new(heap);
-        // with no office at all, office 0 is tried and refused
+        // which limits are in range is for an office to say: with none at all, office 0 is tried and refused
         for own in 0..offices.max(1) {
             let Ok(office) = Office::open(offices, own, parcels) else {
                 return Err(CannotHappen::BadLimits);
             };
-            let Ok(()) = opened.push(office) else {
-                return Err(CannotHappen::NoMemory);
-            };
+            opened.push(office)?;
         }
         Ok(World {
             parcels,
@@ -50,16 +49,13 @@ impl World {
     fn was_given(&self, slip: Slip) -> bool
         ensures { Decides result (IsGiven slip (history (journal_of self.now))) }
     {
-        for said in self.journal.iter() {
-            if gives(said.answer, slip) {
-                return true;
-            }
-        }
-        false
+        self.journal
+            .iter()
+            .any(|said| said.answer == Answer::Given(slip))
     }
 
     // Whether the slip that a call comes with, if it is one with a slip, was given out.
-    fn slip_is_known(&self, reading: Result<Call, u64>) -> bool
+    fn slip_is_known(&self, reading: Result<Call, UnreadableCall>) -> bool
         ensures { Decides result (IsRowKnown reading (history (journal_of self.now))) }
     {
         match reading {
@@ -82,21 +78,20 @@ impl World {
         0
     }
 
-    // Whether an office is there.
-    fn at_office(&self, at: u32) -> Result<(), CannotHappen>
-        ensures { result ≡ at_office (limits_of self.now).offices at }
+    // The office with this number, if it is there.
+    fn office(&self, at: u32) -> Result<&Office, CannotHappen>
+        ensures { OfficeAt self.now at result }
     {
-        if at as usize >= self.offices.len() {
-            return Err(CannotHappen::NoOffice);
-        }
-        Ok(())
+        self.offices.get(at as usize).ok_or(CannotHappen::NoOffice)
     }
 
     // An office's clock ticks: nothing comes of it, in this stage.
     pub fn tick(&self, clock: u32) -> Result<(), CannotHappen>
         ensures { result ≡ at_office (limits_of self.now).offices clock }
     {
-        self.at_office(clock)
+        // the office is there, and has nothing to do yet
+        self.office(clock)?;
+        Ok(())
     }
 
     // A letter comes, by its number among all that were sent: none was, in this stage.
@@ -106,39 +101,26 @@ impl World {
         Err(CannotHappen::NeverSent)
     }
 
-    // What an office that is there answers to a row of bytes, read from the bytes that it writes.
-    fn ask(&self, at: u32, row: &[u8]) -> Answer
-        requires { at < (limits_of self.now).offices }
-        ensures { Asked (limits_of self.now) at row.now result }
-    {
-        let mut out = [0; ANSWER_BYTES];
-        let len = self.offices[at as usize].call(row, &mut out).unwrap();
-        read_answer(&out[0..len]).unwrap()
-    }
-
     // A row of bytes comes to an office as a call.
     pub fn bytes(&mut self, at: u32, row: &[u8]) -> Result<Answer, CannotHappen>
         ensures value { Came (limits_of self.old) (journal_of self.old) at row.now result (journal_of self.new) }
         ensures same { limits_of self.new ≡ limits_of self.old }
     {
         let reading = read_call(row);
-        self.at_office(at)?;
+        let office = self.office(at)?;
         if !self.slip_is_known(reading) {
             return Err(CannotHappen::NeverGiven);
         }
-        let answer = self.ask(at, row);
-        let Ok(()) = self.journal.push(Exchange {
+        let answer = ask(office, row);
+        self.journal.push(Exchange {
             at,
             reading,
             answer,
-        })
-        else {
-            return Err(CannotHappen::NoMemory);
-        };
+        })?;
         Ok(answer)
     }
 
-    // A clerk makes a call at an office: it goes there as bytes.
+    // A clerk makes a call at an office: it goes there as bytes, in a row with room for the longest.
     pub fn call(&mut self, at: u32, call: Call) -> Result<Answer, CannotHappen>
         ensures value { Called (limits_of self.old) (journal_of self.old) at call result (journal_of self.new) }
         ensures same { limits_of self.new ≡ limits_of self.old }
@@ -147,6 +129,6 @@ impl World {
         let Some(len) = write_call(call, &mut row) else {
             return Err(CannotHappen::NoSuchCall);
         };
-        self.bytes(at, &row[0..len])
+        self.bytes(at, &row[..len])
     }
 }

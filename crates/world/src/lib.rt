@@ -2,13 +2,16 @@
 #![tactic(auto)]
 
 ghost use Rattle.std.specs.Prelude.{◌≡◌, ℕ, ◌<◌, true, vec_len, slice_index_or};
-ghost use Rattle.office.specs.Opening.{stage_limits, in_range};
+ghost use Rattle.book.specs.Opening.{in_range};
+ghost use Rattle.office.specs.Opening.{stage_limits, IsOpened};
 ghost use Rattle.office.specs.declared.Office.{Office};
 ghost use Rattle.promises.specs.World.{Lived};
-ghost use Rattle.world.specs.Ours.{ours, world_of, office_at};
+ghost use Rattle.world.specs.Ours.{ours, world_of};
 
 use office::Office;
 use parcels::{Answer, Call};
+use std::alloc::AllocFailed;
+use wire::UnreadableCall;
 
 mod happen;
 
@@ -16,7 +19,7 @@ mod happen;
 #[derive(Clone, Copy)]
 pub struct Exchange {
     pub at: u32,
-    pub reading: Result<Call, u64>,
+    pub reading: Result<Call, UnreadableCall>,
     pub answer: Answer,
 }
 
@@ -33,6 +36,17 @@ pub enum CannotHappen {
     NoMemory,
 }
 
+impl<T: Drop> From<AllocFailed<T>> for CannotHappen {
+    ghost use Rattle.std.specs.Prelude.{◌≡◌};
+    ghost use Rattle.world.specs.declared.CannotHappen.TheVariants.{NoMemory};
+
+    ghost from_gives = { λ _ e. e ≡ NoMemory };
+
+    fn from(_e: AllocFailed<T>) -> CannotHappen {
+        CannotHappen::NoMemory
+    }
+}
+
 // All offices of a post, from number 0 up, each with the same limit of parcels, and the journal of all that was
 // handed to them as calls, the oldest first. The invariant: what it holds came about by things that can happen.
 #[derive(Drop)]
@@ -41,6 +55,6 @@ pub struct World {
     offices: Vec<Office>,
     journal: Vec<Exchange>,
     ghost good: { in_range (vec_len offices) 0 parcels ≡ true },
-    ghost numbered: { ∥ ((k : ℕ) (d : Office) → k < vec_len offices → slice_index_or offices.items k d ≡ office_at (vec_len offices) k parcels) ∥₁ },
+    ghost numbered: { ∥ ((k : ℕ) (d : Office) → k < vec_len offices → IsOpened (slice_index_or offices.items k d) (vec_len offices) k parcels) ∥₁ },
     ghost lived: { ∥ Lived ours (stage_limits (vec_len offices) parcels) (world_of journal.items) ∥₁ },
 }

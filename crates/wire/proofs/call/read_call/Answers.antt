@@ -1,27 +1,24 @@
-use Rattle.std.proofs.Common.{ℕ, List, Ok, Err, refl, ◌∙◌}
+use Rattle.std.proofs.Common.{◌≡◌, ◌∷◌, ◌<◌, ℕ, List, length, Err, sym, subst, rules, arith}
+use Rattle.std.specs.List.{All}
+use Rattle.std.proofs.lemmas.List.Elements.{All-from_get_or, All-rest}
 use Rattle.wire.specs.Calls.{Reads}
-use Rattle.wire.proofs.CallReadings.{call_length, a_call, cut_or_longer, no_number, one_reading, reads_written}
+use Rattle.wire.proofs.CallReadings.{unreadable_at, from_tagged, no_number, one_reading, reads_written}
 use Rattle.wire.proofs.call.read_call.Goals as goal
 
 pub returns-in_default : goal.returns-in_default
 returns-in_default c =
     let row : List ℕ = c.args.row.now in
-    let value : Reads row (Err 0) = no_number row c.padded.result c.padded.ensures.len c.padded.ensures.front c.in_default.ensures in
-    record { value = value; written = reads_written row (Err 0) value; only = λ s. one_reading row (Err 0) s value }
-
-pub returns-then-row-len : goal.returns-then-row-len
-returns-then-row-len c =
-    let row : List ℕ = c.args.row.now in
-    let k : ℕ = c.fitting.result in
-    let value : Reads row (Err k) =
-    cut_or_longer row c.padded.result c.padded.ensures.len c.padded.ensures.front c.in-Some.call _ c.call_len-len.result k c.in-Some.ensures.0
-    c.in-Some.ensures.1 (c.call_len-len.ensures ∙ call_length c.in-Some.call _ refl) c.if-row-len.true c.fitting.ensures in
-    record { value = value; written = reads_written row (Err k) value; only = λ s. one_reading row (Err k) s value }
+    let empty : length row ≡ 0 = search rules in
+    let value : Reads row (Err (unreadable_at 0)) = no_number row (λ d some e. omega arith) in
+    record { value = value; written = reads_written row (Err (unreadable_at 0)) value; only = λ s. one_reading row (Err (unreadable_at 0)) s value }
 
 pub returns : goal.returns
 returns c =
     let row : List ℕ = c.args.row.now in
-    let value : Reads row (Ok c.in-Some.call) =
-    a_call row c.padded.result c.padded.ensures.len c.padded.ensures.front c.in-Some.call _ c.call_len-len.result c.in-Some.ensures.0
-    c.in-Some.ensures.1 (c.call_len-len.ensures ∙ call_length c.in-Some.call _ refl) c.if-row-len.false in
-    record { value = value; written = reads_written row (Ok c.in-Some.call) value; only = λ s. one_reading row (Ok c.in-Some.call) s value }
+    let first : ℕ = c.in-Some.first.now in
+    let body : List ℕ = c.in-Some.body.now in
+    let split : row ≡ first ∷ body = search rules in
+    let small : All (λ b. b < 256) row = All-from_get_or (λ b. b < 256) row 0 (λ i _. omega (arith, c.type_inv.row i)) in
+    let value : Reads row c.read_tagged.result =
+    subst (λ (bytes : List ℕ). Reads bytes c.read_tagged.result) (sym split) (from_tagged first body c.read_tagged.result (All-rest (λ b. b < 256) first body row split small) c.read_tagged.ensures) in
+    record { value = value; written = reads_written row c.read_tagged.result value; only = λ s. one_reading row c.read_tagged.result s value }

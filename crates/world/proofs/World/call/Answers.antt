@@ -1,11 +1,11 @@
 use Rattle.std.proofs.Common.{replicate, inr}
 use Rattle.wire.specs.Layout.{call_bytes}
 use Rattle.world.specs.View.{limits_of, journal_of}
-use Rattle.world.proofs.Asking.{within, front, handed_as}
+use Rattle.world.proofs.Asking.{all_there, front, handed_as}
 use Rattle.world.proofs.World.call.Goals as goal
 
 pub slice_bounds-bytes-end : goal.slice_bounds-bytes-end
-slice_bounds-bytes-end c = within (call_bytes c.args.call) (replicate 25 0) c.write_call.new.out c.in-Some.len c.in-Some.ensures.2
+slice_bounds-bytes-end c = all_there (call_bytes c.args.call) (replicate 25 0) c.write_call.new.out c.in-Some.len c.in-Some.ensures.2
 
 pub returns : goal.returns
 returns c =

@@ -1,25 +1,26 @@
-use Rattle.std.proofs.Common.{◌≡◌, ℕ, ◌+◌, ◌<◌, ◌≤◌, max, true, List, get_or, vec_items, vec_len, refl, ◌∙◌, subst, arith, below_more}
+use Rattle.std.proofs.Common.{◌≡◌, ℕ, ◌+◌, ◌<◌, ◌≤◌, max, true, List, get_or, vec_items, vec_len, sym, refl, ◌∙◌, subst, arith, below_more}
 use Rattle.std.proofs.lemmas.Bool.Decides.{nat_tests}
-use Rattle.office.specs.Opening.{in_range}
+use Rattle.book.specs.Opening.{in_range}
+use Rattle.office.specs.Opening.{IsOpened}
 use Rattle.office.specs.declared.Office.{Office}
-use Rattle.world.specs.Ours.{office_at}
 use Rattle.world.proofs.Stage.{begins}
 use Rattle.world.proofs.World.open.Goals as goal
 
 -- one office more
-numbered_more : (n p i m : ℕ) (xs ys : List Office) (x : Office) → m ≡ i → x ≡ office_at n i p → ((k : ℕ) (d : Office) → k < m → get_or ys k d ≡ get_or xs k d) →
-    ((d : Office) → get_or ys m d ≡ x) → ((k : ℕ) (d : Office) → k < i → get_or xs k d ≡ office_at n k p) → (k : ℕ) (d : Office) → k < i + 1 → get_or ys k d ≡ office_at n k p
+numbered_more : (n p i m : ℕ) (xs ys : List Office) (x : Office) → m ≡ i → IsOpened x n i p → ((k : ℕ) (d : Office) → k < m → get_or ys k d ≡ get_or xs k d) →
+    ((d : Office) → get_or ys m d ≡ x) → ((k : ℕ) (d : Office) → k < i → IsOpened (get_or xs k d) n k p) → (k : ℕ) (d : Office) → k < i + 1 → IsOpened (get_or ys k d) n k p
 numbered_more n p i m xs ys x e is before last inv k d h =
-    below_more (λ k. get_or ys k d ≡ office_at n k p) i (λ k h. before k d (omega arith) ∙ inv k d h) (subst (λ (j : ℕ). get_or ys j d ≡ office_at n i p) e (last d ∙ is)) k h
+    below_more (λ k. IsOpened (get_or ys k d) n k p) i (λ k h. subst (λ (y : Office). IsOpened y n k p) (sym (before k d (omega arith))) (inv k d h))
+    (subst (λ (j : ℕ). IsOpened (get_or ys j d) n i p) e (subst (λ (y : Office). IsOpened y n i p) (sym (last d)) is)) k h
 
 from_first : (n o p : ℕ) → in_range n o p ≡ true → in_range n 0 p ≡ true
 from_first n o p h = grind (arith, nat_tests)
 
 pub loop-own-preserved : goal.loop-own-preserved
 loop-own-preserved c = (
-  omega (arith, c.in-Ok-push.ensures.len, c.loop-own.invariant.0),
+  omega (arith, c.in_ok-push.ensures.len, c.loop-own.invariant.0),
   numbered_more c.args.offices c.args.parcels c.loop-own.own (vec_len c.loop-own.opened) (vec_items c.loop-own.opened) (vec_items c.push.new.self) c.in-Ok.office
-      c.loop-own.invariant.0 c.in-Ok.ensures.1 c.in-Ok-push.ensures.by_index.0 (λ d. c.in-Ok-push.ensures.by_index.1 d refl) c.loop-own.invariant.1,
+      c.loop-own.invariant.0 c.in-Ok.ensures.1 c.in_ok-push.ensures.by_index.0 (λ d. c.in_ok-push.ensures.by_index.1 d refl) c.loop-own.invariant.1,
   λ _. from_first c.args.offices c.loop-own.own c.args.parcels c.in-Ok.ensures.0,
 )
 

@@ -1,5 +1,0 @@
-use Rattle.std.proofs.Common.{length}
-use Rattle.player.proofs.report.run.Given as goal
-
-abbrev pub decreases-loop-line : goal.decreases-loop-line
-decreases-loop-line l = length l.lines.rest.now
