@@ -1,4 +1,5 @@
-// Answers and steps as text.
+// Answers and steps as text. Each is a type of its own, since what it shows is a type of another crate, and its Display
+// is written by hand, since its text is stated, and a derive states none.
 #![tactic(auto)]
 
 ghost use Rattle.std.specs.Prelude.{Some};

@@ -1,4 +1,5 @@
 pub mod Opening
+pub mod Opened
 pub mod Tree
 pub mod Search
 pub mod Sound

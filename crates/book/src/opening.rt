@@ -27,8 +27,10 @@ pub struct Opening {
 }
 
 impl Opening {
+    ghost use Rattle.book.specs.Opened.{Opens};
+
     pub fn new(offices: u32, own: u32, parcels: u32) -> Result<Opening, Refusal>
-        ensures { elim result [ Ok x ↦ (in_range offices own parcels ≡ true) × (x.offices ≡ offices) × (x.own ≡ own) × (x.parcels ≡ parcels) | Err e ↦ (in_range offices own parcels ≡ false) × (e ≡ bad_limits) ] }
+        ensures { Opens offices own parcels result }
     {
         if !(MIN_OFFICES..=MAX_OFFICES).contains(&offices)
             || own >= offices

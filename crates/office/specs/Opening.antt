@@ -1,8 +1,8 @@
 -- Opening an office, and the stage that its calls are in.
-use Rattle.std.specs.Prelude.{◌≡◌, ℕ, true, false, Ok, Err, Result}
+use Rattle.std.specs.Prelude.{◌≡◌, ℕ, Ok, Err, Result}
 use Rattle.parcels.specs.Calls.{Limits, nothing}
 use Rattle.parcels.specs.declared.Refusal.{Refusal}
-use Rattle.book.specs.Opening.{in_range, bad_limits}
+use Rattle.book.specs.Opened.{Opens as OpensWith}
 use Rattle.office.specs.declared.Office.{Office}
 
 -- an office that was opened with these limits
@@ -11,8 +11,8 @@ IsOpened x offices own parcels = (x.opening.offices ≡ offices) × (x.opening.o
 
 -- an office opens where its limits are in range, and keeps them; else it is refused
 abbrev pub Opens : ℕ → ℕ → ℕ → Result Office Refusal → Type 0
-Opens offices own parcels (Ok x) = (in_range offices own parcels ≡ true) × IsOpened x offices own parcels
-Opens offices own parcels (Err e) = (in_range offices own parcels ≡ false) × (e ≡ bad_limits)
+Opens offices own parcels (Ok x) = OpensWith offices own parcels (Ok x.opening)
+Opens offices own parcels (Err e) = OpensWith offices own parcels (Err e)
 
 -- the stage of the office: nothing can be done yet
 abbrev pub stage_limits : ℕ → ℕ → Limits

@@ -106,7 +106,7 @@ impl From<Kind> for u8 {
     }
 }
 
-// The numbers stand here once more: there is no derive that reads an enum back from them.
+// The numbers of kinds stand here once more: there is no derive that reads an enum back from them.
 impl TryFrom<u64> for Kind {
     type Error = UnknownNumber;
 
@@ -150,6 +150,7 @@ impl From<Reason> for u8 {
     }
 }
 
+// The numbers of reasons once more, as those of kinds.
 impl TryFrom<u64> for Reason {
     type Error = UnknownNumber;
 
@@ -172,7 +173,7 @@ impl TryFrom<u64> for Reason {
 }
 
 impl Answer {
-    // The first of its bytes.
+    // The first of its bytes: no conversion either.
     pub fn number(self) -> u8
         ensures { result ≡ answer_number self }
     {

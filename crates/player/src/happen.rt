@@ -25,7 +25,8 @@ fn few_enough(letters: u32) -> bool
     letters <= MAX_PLAYED_LETTERS
 }
 
-// A world, and how many more things may happen in it.
+// A world, and how many more things may happen in it. What each function leaves of both stands in its contract: it is
+// no fact about a player that its type could hold.
 #[derive(Drop)]
 pub struct Player {
     world: World,
@@ -75,6 +76,7 @@ impl Player {
         Ok(())
     }
 
+    // (Not one function with `hear`: what comes of each is another clause.)
     fn tick(&mut self, at: u32) -> Result<(), Stop>
         ensures value { unanswered result ≡ one_thing self.old.budget (at_office (limits_of self.old.world).offices at) }
         ensures after { self.new.budget ≡ self.old.budget - 1 }
@@ -93,7 +95,7 @@ impl Player {
         self.count_letters()
     }
 
-    // All clocks tick, from office 0 up.
+    // All clocks tick, from office 0 up: by number, which is what says whose clock it is.
     fn all_tick(&mut self) -> Result<(), Stop>
         ensures value { result ≡ pick (nat_le (limits_of self.old.world).offices self.old.budget) (Ok tt) (Err BudgetSpent) }
         ensures after { self.new.budget ≡ self.old.budget - (limits_of self.old.world).offices }

@@ -33,6 +33,7 @@ enum Failure {
     },
 }
 
+// By hand, as that of `Trouble`.
 impl fmt::Display for Failure {
     ghost output = { failure_text };
 
@@ -73,6 +74,7 @@ impl<R: Into<Report>, F: Fn(Global, &[u8]) -> R> Program<F> {
     fn run_file(&self, rt: &HostRuntime, path: String) -> Result<End, Failure>
         requires { F.IsAlwaysCallable self.now.report }
     {
+        // no map_err: the path goes into the error
         let file = match fs::read(rt, path.as_str()) {
             Ok(file) => file,
             Err(error) => return Err(Failure::File { path, error }),

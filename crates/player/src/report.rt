@@ -42,6 +42,7 @@ pub struct BadLine {
     pub trouble: Trouble,
 }
 
+// By hand, as that of `Trouble`.
 impl fmt::Display for BadLine {
     ghost output = { λ x. Some (bad_line_text x) };
 
@@ -72,7 +73,8 @@ fn show(answer: Answer, shown: &mut String) -> Result<(), Trouble>
     Ok(())
 }
 
-// Why a world stopped, as a line, where no line of its file is to blame: so the file ends.
+// Why a world stopped, as a line, where no line of its file is to blame: so the file ends. (No function with `show`:
+// each states a text of its own.)
 fn show_stop(what: &str, most: u32, shown: &mut String) -> Result<End, Trouble>
     ensures { MatchResult result (λ end. (end ≡ Stopped) × (string_bytes shown.new ≡ string_bytes shown.old ++ stop_line most what.now)) (λ e. e ≡ Impossible NoMemory) }
 {
@@ -168,7 +170,8 @@ pub fn play(heap: Global, file: &[u8], budget: u32) -> Report
 }
 
 // Plays a world file and tells of each parcel, in the order of keys, where it is by what was taken
-// everywhere. In this stage no call is taken, so there is none to tell of.
+// everywhere. In this stage no call is taken, so there is none to tell of: only that differs from `play`, and it has a
+// contract of its own.
 pub fn locate(heap: Global, file: &[u8], budget: u32) -> Report
     ensures { ReportsNothing budget result }
 {

@@ -4,7 +4,8 @@ ghost use Rattle.std.specs.Iterator.{at_most};
 ghost use Rattle.player.specs.Cut.{Cuts, FirstLine};
 
 // What is left of a text, and how many lines were taken from it: the number of the last one is asked for when the
-// text is at its end, so it is counted here and not by `enumerate`.
+// text is at its end, so it is counted here and not by `enumerate`. (std's `split_inclusive` leaves the newline on
+// each piece.)
 #[derive(Drop)]
 pub struct Lines<'a> {
     rest: &'a [u8],

@@ -59,7 +59,8 @@ impl From<AllocError> for Trouble {
     }
 }
 
-// Why something can't happen, to be written: in the words of a world that is played, which is small.
+// Why something can't happen, to be written: in the words of a world that is played, which is small. (Its Display is by
+// hand, as that of `Trouble`.)
 #[derive(Clone, Copy)]
 struct ImpossibleText(CannotHappen);
 

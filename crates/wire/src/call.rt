@@ -28,10 +28,11 @@ impl From<UnreadableCall> for Refusal {
 }
 
 // What the bytes behind a call's first one carry, in fields of four bytes each; or the place where the row ceases to
-// be so.
+// be so, which answers don't want (`read_part`).
 fn read_fields<T: Fields<N>, const N: usize>(body: &[u8]) -> Result<T, UnreadableCall>
     ensures { ReadsFields T.values N body.now result }
 {
+    // a count below 26, so nothing is cut off
     let cut = UnreadableCall {
         place: 1 + body.len().min(4 * N) as u64,
     };

@@ -1,8 +1,16 @@
 // Numbers as bytes, low byte first.
 ghost use Rattle.std.specs.Prelude.{◌≡◌, ◌+◌, ◌*◌, take, drop, ◌^◌, ◌<◌, ◌≤◌, length};
+ghost use Rattle.std.specs.Int.{w64, from_le_bytes};
 ghost use Rattle.wire.specs.Layout.{little_endian, Holds};
 
 use std::array;
+
+// The number of eight bytes, of which each counts 256 times as much as the one before it.
+fn join(low_first: [u8; 8]) -> u64
+    ensures { result ≡ from_le_bytes w64 low_first }
+{
+    u64::from_le_bytes(low_first)
+}
 
 // The number that at most eight bytes hold.
 fn read_number(part: &[u8]) -> u64
@@ -10,9 +18,10 @@ fn read_number(part: &[u8]) -> u64
     ensures bytes { part.now ≡ little_endian (length part.now) result }
     ensures fits { result < 256 ^ length part.now }
 {
+    // std makes a number of just eight bytes
     let mut low_first = [0; 8];
     low_first[..part.len()].copy_from_slice(part);
-    u64::from_le_bytes(low_first)
+    join(low_first)
 }
 
 // Writes the low bytes of a number, as many as are lent.

@@ -112,7 +112,8 @@ fn check_reasons(rt: &impl Abort) {
     }
 }
 
-// Each kind by its number, in a step whose other bytes stay.
+// Each kind by its number, in a step whose other bytes stay. (Not one with `check_reasons`: what is made of the two
+// differs.)
 fn check_kinds(rt: &impl Abort) {
     let at = *b"\x03\
                 \x01\x02\x03\x04\x05\x06\x07\x08\
@@ -135,7 +136,8 @@ fn check_kinds(rt: &impl Abort) {
     }
 }
 
-// The bytes are read as the answer, and the answer is written as the bytes, where more are lent too.
+// The bytes are read as the answer, and the answer is written as the bytes, where more are lent too. (Not one with
+// `check_call`: three lines, of which each names its own functions.)
 fn check_answer(rt: &impl Abort, answer: Answer, bytes: &[u8]) {
     assert!(rt; read_answer(bytes) == Some(answer), "answer {bytes:?}");
     check_written::<64, _>(rt, Some(bytes), |out| write_answer(answer, out));

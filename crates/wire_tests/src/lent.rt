@@ -1,4 +1,4 @@
-// Bytes that are lent to be written into, and what is left of them.
+// Bytes that are lent to be written into, and what is left of them: that is what is tested here.
 ghost use Rattle.std.specs.Prelude.{◌≤◌};
 
 use parcels::{Answer, Call, Slip};

@@ -31,7 +31,8 @@ impl World {
         ensures { Opens offices parcels result }
     {
         let mut opened = Vec::new(heap);
-        // which limits are in range is for an office to say: with none at all, office 0 is tried and refused
+        // by number, which is what each is opened with. Which limits are in range is for an office to say: with none at
+        // all, office 0 is tried and refused
         for own in 0..offices.max(1) {
             let Ok(office) = Office::open(offices, own, parcels) else {
                 return Err(CannotHappen::BadLimits);
@@ -68,6 +69,7 @@ impl World {
     pub fn offices(&self) -> u32
         ensures { result ≡ (limits_of self.now).offices }
     {
+        // a post has few offices, so nothing is cut off
         self.offices.len() as u32
     }
 
@@ -120,7 +122,8 @@ impl World {
         Ok(answer)
     }
 
-    // A clerk makes a call at an office: it goes there as bytes, in a row with room for the longest.
+    // A clerk makes a call at an office: it goes there as bytes, written into lent ones with room for the longest call,
+    // since below the text nothing has a heap.
     pub fn call(&mut self, at: u32, call: Call) -> Result<Answer, CannotHappen>
         ensures value { Called (limits_of self.old) (journal_of self.old) at call result (journal_of self.new) }
         ensures same { limits_of self.new ≡ limits_of self.old }

@@ -48,7 +48,8 @@ impl<T: Drop> From<AllocFailed<T>> for CannotHappen {
 }
 
 // All offices of a post, from number 0 up, each with the same limit of parcels, and the journal of all that was
-// handed to them as calls, the oldest first. The invariant: what it holds came about by things that can happen.
+// handed to them as calls, the oldest first. The invariant: what it holds came about by things that can happen. Others
+// see its limits and its journal, and these apart, since the promises speak of each.
 #[derive(Drop)]
 pub struct World {
     parcels: u32,

@@ -20,7 +20,7 @@ pub loop-own-preserved : goal.loop-own-preserved
 loop-own-preserved c = (
   omega (arith, c.in_ok-push.ensures.len, c.loop-own.invariant.0),
   numbered_more c.args.offices c.args.parcels c.loop-own.own (vec_len c.loop-own.opened) (vec_items c.loop-own.opened) (vec_items c.push.new.self) c.in-Ok.office
-      c.loop-own.invariant.0 c.in-Ok.ensures.1 c.in_ok-push.ensures.by_index.0 (λ d. c.in_ok-push.ensures.by_index.1 d refl) c.loop-own.invariant.1,
+      c.loop-own.invariant.0 (c.in-Ok.ensures.1, c.in-Ok.ensures.2, c.in-Ok.ensures.3) c.in_ok-push.ensures.by_index.0 (λ d. c.in_ok-push.ensures.by_index.1 d refl) c.loop-own.invariant.1,
   λ _. from_first c.args.offices c.loop-own.own c.args.parcels c.in-Ok.ensures.0,
 )
 
