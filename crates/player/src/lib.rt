@@ -7,6 +7,6 @@ mod report;
 mod split;
 mod trouble;
 
-pub use program::{LOCATE, PLAY, Program};
+pub use program::{Locate, Play, Program};
 pub use report::{BUDGET, BadLine, End, Report, locate, play};
 pub use trouble::Trouble;

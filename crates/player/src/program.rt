@@ -1,16 +1,14 @@
 // The programs: what they do with the files that they are given.
-ghost use Rattle.std.specs.Prelude.{◌≡◌};
+ghost use Rattle.std.specs.Prelude.{◌≡◌, ℕ, List, codes};
 ghost use Rattle.player.specs.Program.{failure_text};
+ghost use Rattle.player.specs.Report.{Reports, ReportsNothing};
+ghost use Rattle.player.specs.declared.report.Report.{Report};
+ghost use Rattle.player.specs.declared.report.TheConstants.{BUDGET};
 
-use crate::report::{BadLine, End, Report};
+use crate::report::{BUDGET, BadLine, End, Report, locate, play};
 use std::alloc::Global;
 use std::process::ExitCode;
 use std::{env, fmt, fs, io};
-
-// What the programs are called.
-pub const PLAY: &str = "play";
-
-pub const LOCATE: &str = "locate";
 
 // Why a program ends before it has done all its files.
 #[derive(Drop)]
@@ -47,70 +45,98 @@ impl fmt::Display for Failure {
     }
 }
 
-// A program, by the report that it shows of each world file that it is given.
-#[derive(Drop)]
-pub struct Program<F> {
-    name: &'static str,
-    report: F,
-}
+// A program that shows a report of each world file that it is given.
+pub trait Program {
+    // what it is called
+    ghost called: { List ℕ };
 
-// The call gives an R, and that a report: a bound whose own result holds a `&'static str`, as the fault of a bad
-// line does, gets no proof.
-impl<R: Into<Report>, F: Fn(Global, &[u8]) -> R> Program<F> {
-    pub fn new(name: &'static str, report: F) -> Program<F>
-        ensures { (result.name.now ≡ name.now) × (result.report ≡ report) }
-    {
-        Program { name, report }
-    }
+    // what is true of each report
+    ghost reports: { Report → Type 0 };
 
-    fn io(&self, error: io::Error) -> Failure {
-        Failure::Io {
-            program: self.name,
-            error,
-        }
-    }
+    fn name(&self) -> &'static str
+        ensures { result.now ≡ called };
 
-    // One file, which is a world of its own.
-    fn run_file(&self, rt: &HostRuntime, path: String) -> Result<End, Failure>
-        requires { F.IsAlwaysCallable self.now.report }
-    {
-        // no map_err: the path goes into the error
-        let file = match fs::read(rt, path.as_str()) {
-            Ok(file) => file,
-            Err(error) => return Err(Failure::File { path, error }),
-        };
-        let report: Report = (self.report)(rt.alloc(), file.as_slice()).into();
-        print!(rt; "{}", report.shown).map_err(|error| self.io(error))?;
-        report.end.map_err(|bad| Failure::Bad { path, bad })
-    }
+    fn report(&self, heap: Global, file: &[u8]) -> Report
+        ensures { reports result };
 
-    // The files, one after the other, up to the first that stops or is bad.
-    fn run_files(&self, rt: &HostRuntime) -> Result<(), Failure>
-        requires { F.IsAlwaysCallable self.now.report }
-    {
-        let args = env::args(rt).map_err(|error| self.io(error))?;
-        // the first argument is what the program was called by
-        if args.len() < 2 {
-            return Err(Failure::NoFile { program: self.name });
-        }
-        for path in args.skip(1) {
-            if self.run_file(rt, path)? == End::Stopped {
-                break;
-            }
-        }
-        Ok(())
-    }
-
-    // Runs the program on its files. What is wrong goes to standard error, as a line. (That the report may be asked for
-    // is for each call to show: as a ghost field it would make R a parameter of the struct.)
-    pub fn run(&self, rt: &HostRuntime) -> ExitCode
-        requires { F.IsAlwaysCallable self.now.report }
-    {
-        let Err(failure) = self.run_files(rt) else {
+    // Runs the program on its files. What is wrong goes to standard error, as a line.
+    final fn run(&self, rt: &HostRuntime) -> ExitCode {
+        let Err(failure) = run_files(self, rt) else {
             return ExitCode::SUCCESS;
         };
         // where not even this can be written, the status alone says so
         let _ = eprintln!(rt; "{failure}");
         ExitCode::FAILURE
     }
+}
+
+// Shows an answer for each call.
+#[derive(Clone, Copy)]
+pub struct Play;
+
+impl Program for Play {
+    ghost called = { codes "play" };
+
+    ghost reports = { Reports BUDGET };
+
+    fn name(&self) -> &'static str {
+        "play"
+    }
+
+    fn report(&self, heap: Global, file: &[u8]) -> Report {
+        play(heap, file, BUDGET)
+    }
+}
+
+// Shows where each parcel is.
+#[derive(Clone, Copy)]
+pub struct Locate;
+
+impl Program for Locate {
+    ghost called = { codes "locate" };
+
+    ghost reports = { ReportsNothing BUDGET };
+
+    fn name(&self) -> &'static str {
+        "locate"
+    }
+
+    fn report(&self, heap: Global, file: &[u8]) -> Report {
+        locate(heap, file, BUDGET)
+    }
+}
+
+// One file, which is a world of its own.
+fn run_file<P: Program>(program: &P, rt: &HostRuntime, path: String) -> Result<End, Failure> {
+    // no map_err: the path goes into the error
+    let file = match fs::read(rt, path.as_str()) {
+        Ok(file) => file,
+        Err(error) => return Err(Failure::File { path, error }),
+    };
+    let report = program.report(rt.alloc(), file.as_slice());
+    let name = program.name();
+    print!(rt; "{}", report.shown).map_err(|error| Failure::Io {
+        program: name,
+        error,
+    })?;
+    report.end.map_err(|bad| Failure::Bad { path, bad })
+}
+
+// The files, one after the other, up to the first that stops or is bad.
+fn run_files<P: Program>(program: &P, rt: &HostRuntime) -> Result<(), Failure> {
+    let name = program.name();
+    let args = env::args(rt).map_err(|error| Failure::Io {
+        program: name,
+        error,
+    })?;
+    // the first argument is what the program was called by
+    if args.len() < 2 {
+        return Err(Failure::NoFile { program: name });
+    }
+    for path in args.skip(1) {
+        if run_file(program, rt, path)? == End::Stopped {
+            break;
+        }
+    }
+    Ok(())
 }
