@@ -1,8 +1,8 @@
 -- A slip works once; a call that is turned away changes no book.
 use Rattle.std.proofs.Common.{◌≡◌, ℕ, suc, Bool, true, false, ◌&&◌, ◌||◌, eqb, ltb, is_some, Some, None, Option, refl, ap, ◌∙◌, arith, le-ltb, eq-eqb}
 use borrow.Author.Tests.{clash}
-use Rattle.parcels.specs.Book.{pick, Book, has, own, with_own}
-use Rattle.parcels.specs.Calls.{good_fields, checked, turned, after, changed, unless, came_entry, slip_works, has_room}
+use Rattle.parcels.specs.Book.{pick, Book, has, own, with_own, has_room}
+use Rattle.parcels.specs.Calls.{good_fields, checked, turned, after, changed, unless, came_entry, slip_works}
 use Rattle.parcels.specs.Laws.{SlipOnce, TurnedAway}
 use Rattle.parcels.specs.declared.Slip.{Slip}
 use Rattle.parcels.specs.declared.Entry.{Entry}
@@ -42,4 +42,4 @@ slip_once l o b s h =
     let c : Call = TakeIn s in
     let b' : Book = changed o b c in
     let taken : after l o b c ≡ b' = ap (λ t. unless t b' (λ r. b)) h in
-    rw taken (refused_again (l.can 3 && good_fields l o c) (slip_works o b' s) (has b' s.key || has_room l b') (used_up o b s (has b s.key && (own b s.key).paid)))
+    rw taken (refused_again (l.can 3 && good_fields l o c) (slip_works o b' s) (has b' s.key || has_room l.parcels b') (used_up o b s (has b s.key && (own b s.key).paid)))

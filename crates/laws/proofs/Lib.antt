@@ -1,2 +1,3 @@
 pub mod Books
 pub mod Calls
+pub mod Keys

@@ -1,5 +1,5 @@
 -- What an office has of parcels by its own calls: a book, a list of entries in the order in which they came.
-use Rattle.std.specs.Prelude.{ℕ, suc, ◌+◌, ◌-◌, ◌/◌, Bool, true, false, ◌&&◌, ◌||◌, List, [], ◌∷◌, ◌==◌, nat_le, nat_lt}
+use Rattle.std.specs.Prelude.{ℕ, suc, ◌+◌, ◌-◌, ◌/◌, Bool, true, false, ◌&&◌, ◌||◌, List, [], ◌∷◌, length, ◌==◌, nat_le, nat_lt}
 use Rattle.parcels.specs.Numbers.{keys_of_an_office}
 use Rattle.parcels.specs.declared.Kind.{Kind}
 use Rattle.parcels.specs.declared.Kind.TheVariants.{Accepted, SentOn, ComeIn, HandedOut}
@@ -61,6 +61,10 @@ was_handed_out HandedOut = true
 -- whether a parcel is at the office
 abbrev pub is_here : Book → ℕ → Bool
 is_here b key = has b key && leaves_it_here (own b key).kind
+
+-- one parcel more is within the limit
+abbrev pub has_room : ℕ → Book → Bool
+has_room parcels b = nat_lt (length b) parcels
 
 -- how many parcels of a book were accepted at an office
 unfoldable pub accepted : ℕ → Book → ℕ

@@ -1,7 +1,7 @@
 -- What an office does with a call by what it has in its book: why it turns it away, and else what it changes and answers.
-use Rattle.std.specs.Prelude.{ℕ, suc, ◌+◌, ◌*◌, Bool, true, false, not, ◌&&◌, ◌||◌, length, Some, None, Option, ◌==◌, nat_le, nat_lt}
+use Rattle.std.specs.Prelude.{ℕ, suc, ◌+◌, ◌*◌, Bool, true, false, not, ◌&&◌, ◌||◌, Some, None, Option, ◌==◌, nat_le, nat_lt}
 use Rattle.parcels.specs.Numbers.{call_number, keys_of_an_office, most_amount}
-use Rattle.parcels.specs.Book.{pick, origin, Book, has, own, with_own, is_here, was_sent_on, accepted, how_many_here, first_here, collected, paid_out}
+use Rattle.parcels.specs.Book.{pick, origin, Book, has, own, with_own, is_here, was_sent_on, has_room, accepted, how_many_here, first_here, collected, paid_out}
 use Rattle.parcels.specs.declared.Kind.TheVariants.{Accepted, SentOn, ComeIn, HandedOut}
 use Rattle.parcels.specs.declared.Slip.{Slip}
 use Rattle.parcels.specs.declared.Entry.{Entry}
@@ -51,17 +51,13 @@ good_fields l o Sums = true
 abbrev pub slip_works : ℕ → Book → Slip → Bool
 slip_works o b s = s.to == o && (not (has b s.key) || nat_lt (own b s.key).step s.step)
 
--- one more parcel is within the limit
-abbrev pub has_room : Limits → Book → Bool
-has_room l b = nat_lt (length b) l.parcels
-
 -- the checks that ask the book, in their order: the first reason to turn a call away. Whether a parcel was
 -- handed out elsewhere is known by news, and isn't asked here
 unfoldable pub checked : Limits → ℕ → Book → Call → Option Reason
-checked l o b (Accept dest amount) = pick (has_room l b) None (Some OverLimit)
+checked l o b (Accept dest amount) = pick (has_room l.parcels b) None (Some OverLimit)
 checked l o b (Send key to) = pick (is_here b key) None (Some NotHere)
 checked l o b (SlipAgain key) = pick (has b key && was_sent_on (own b key).kind) None (Some NotHere)
-checked l o b (TakeIn s) = pick (slip_works o b s) (pick (has b s.key || has_room l b) None (Some OverLimit)) (Some WrongSlip)
+checked l o b (TakeIn s) = pick (slip_works o b s) (pick (has b s.key || has_room l.parcels b) None (Some OverLimit)) (Some WrongSlip)
 checked l o b (HandOut key) = pick (is_here b key) (pick ((own b key).dest == o) None (Some OtherOffice)) (Some NotHere)
 checked l o b (Pay key) =
     pick (has b key && origin key == o) (pick ((own b key).amount == 0) (Some NothingToPay) (pick (own b key).paid (Some PaidAlready) None)) (Some NotHere)

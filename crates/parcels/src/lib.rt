@@ -5,7 +5,7 @@ ghost use Rattle.std.specs.Prelude.{◌≡◌};
 ghost use Rattle.parcels.specs.Numbers.{call_number, kind_number, reason_number, answer_number, ByNumber};
 
 // What a step did with its parcel, with its number in answers and in memory.
-#[derive(Clone, Copy, PartialEq, Eq)]
+#[derive(Clone, Copy, Debug, PartialEq, Eq)]
 pub enum Kind {
     Accepted = 0,
     SentOn = 1,
@@ -36,7 +36,7 @@ pub struct Slip {
 // What an office has of a parcel by its own calls: the last step made here, to where the parcel was sent
 // by it (or this office), for which office it is, its amount, and whether that was paid out here. `paid` makes no Option
 // of the amount, which is known from the start.
-#[derive(Clone, Copy)]
+#[derive(Clone, Copy, Debug, PartialEq, Eq)]
 pub struct Entry {
     pub key: u32,
     pub step: u64,
@@ -63,7 +63,7 @@ pub enum Call {
 
 // Why a call is turned away. The checks are made in the order of these numbers; only pay asks for an amount to be paid
 // first, then whether it was paid already, and then for the news that makes it payable.
-#[derive(Clone, Copy, PartialEq, Eq)]
+#[derive(Clone, Copy, Debug, PartialEq, Eq)]
 pub enum Reason {
     Unreadable = 1,
     OutOfRange = 2,
@@ -81,7 +81,7 @@ pub enum Reason {
 pub struct UnknownNumber(pub u64);
 
 // A reason, and the place in the call that it is about.
-#[derive(Clone, Copy, PartialEq, Eq)]
+#[derive(Clone, Copy, Debug, PartialEq, Eq)]
 pub struct Refusal {
     pub reason: Reason,
     pub place: u64,

@@ -161,14 +161,14 @@ short [] = true
 short (x ∷ xs) = (nat_le (length x.text) letter_bytes && all_below 256 x.text) && short xs
 
 -- the most words of memory, by the limit of parcels
-abbrev pub words_for : ℕ → ℕ
-words_for parcels = words_a_parcel * parcels + words_more
+abbrev pub most_words : ℕ → ℕ
+most_words parcels = words_a_parcel * parcels + words_more
 
 -- memory is within its bound, its words and the letters' bytes fit, and a tick, a letter and a call send few letters
 abbrev pub StaysSmall : Stage → Office → Type 0
 StaysSmall can f =
     (l : Limits) (w : World) (o : ℕ) → GoodLimits can l → Lived f l w → o < l.offices →
-    (length (w.memory o) ≤ words_for l.parcels)
+    (length (w.memory o) ≤ most_words l.parcels)
     × (all_below four_bytes (w.memory o) ≡ true)
     × (short w.sent ≡ true)
     × ((m : Memory) (ls : List Letter) → f.Ticked l o (w.memory o) m ls → length ls ≤ l.parcels)
