@@ -3,7 +3,7 @@ use Rattle.std.proofs.Common.{◌≡◌, ℕ, suc, ◌+◌, ◌*◌, ◌/◌, �
 use Rattle.std.proofs.lemmas.Bool.{cases_lt}
 use Rattle.parcels.specs.Book.{pick}
 use Rattle.rows.specs.declared.Link.{Link}
-use Rattle.book.specs.Tree.{Tree, root, key_bits, link_below, Spot, at, free, spot_row, spot_height, seek, height, Hangs, Linked, Found, SoundTree}
+use Rattle.book.specs.Tree.{Tree, root, key_bits, link_below, Spot, at, free, spot_row, spot_height, seek, height, Hangs, Linked, Found, SoundTree, spot_of}
 use Rattle.book.proofs.Search.{seek_here, seek_on, Way, stops, ends, goes, hangs_row, leads, whole_way, way_free}
 
 -- the tree before and after: the row behind the last one got the key, an empty link leads to it, and it has no links
@@ -26,12 +26,12 @@ hangs_once t n l h p h' p' x y = grind arith
 spot_at : (s : Spot) (r : ℕ) → 1 ≤ r → spot_row s ≡ r → s ≡ at r (spot_height s)
 spot_at s r one e = grind arith
 
-pub found_at : (t : Tree) (n : ℕ) → SoundTree t n → (r : ℕ) → 1 ≤ r → r ≤ n → seek t key_bits root (t.key r) ≡ at r (height t r)
+pub found_at : (t : Tree) (n : ℕ) → SoundTree t n → (r : ℕ) → 1 ≤ r → r ≤ n → spot_of t (t.key r) ≡ at r (height t r)
 unfolding height
-found_at t n sound r one low = spot_at (seek t key_bits root (t.key r)) r one (sound.found (record { row = r; from = one; to = low })).1
+found_at t n sound r one low = spot_at (spot_of t (t.key r)) r one (sound.found (record { row = r; from = one; to = low })).1
 
 module _ (t t' : Tree) (n key : ℕ) (end : Link) (left : ℕ) (sound : SoundTree t n) (grown : Grown t t' n key end) (small : key < 2 ^ key_bits)
-    (freed : seek t key_bits root key ≡ free end left) where
+    (freed : spot_of t key ≡ free end left) where
   -- a link that led to a row leads there still
   same_link : (l : Link) → l.row ≤ n → t.link l ≢ 0 → t'.link l ≡ t.link l
   same_link l row some = grown.links l row (λ e. some (ap t.link e ∙ grown.was))
@@ -61,15 +61,15 @@ module _ (t t' : Tree) (n key : ℕ) (end : Link) (left : ℕ) (sound : SoundTre
   comes (ends _ _ _ _) e = absurd (cc)
   comes (goes {h} {l} here some low other w) e = goes_on key h l here some low other ∙ comes w e
 
-  found_kept : (r : ℕ) → 1 ≤ r → r ≤ n → seek t' key_bits root (t'.key r) ≡ at r (height t r)
+  found_kept : (r : ℕ) → 1 ≤ r → r ≤ n → spot_of t' (t'.key r) ≡ at r (height t r)
   found_kept r one low =
-      let was : seek t key_bits root (t.key r) ≡ at r (height t r) = found_at t n sound r one low in
-      ap (λ k. seek t' key_bits root k) (grown.keys r one low)
+      let was : spot_of t (t.key r) ≡ at r (height t r) = found_at t n sound r one low in
+      ap (λ k. spot_of t' k) (grown.keys r one low)
       ∙ kept r (height t r) (whole_way t n sound (t.key r) (sound.found (record { row = r; from = one; to = low })).0) was
       ∙ was
 
-  found_new : seek t' key_bits root (t'.key (suc n)) ≡ at (suc n) left
-  found_new = ap (λ k. seek t' key_bits root k) grown.has ∙ comes (whole_way t n sound key small) freed
+  found_new : spot_of t' (t'.key (suc n)) ≡ at (suc n) left
+  found_new = ap (λ k. spot_of t' k) grown.has ∙ comes (whole_way t n sound key small) freed
 
   height_kept : (r : ℕ) → 1 ≤ r → r ≤ n → height t' r ≡ height t r
   unfolding height

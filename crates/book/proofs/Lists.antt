@@ -1,8 +1,8 @@
 -- Looking up and putting in, in a book whose entries are those of rows.
-use Rattle.std.proofs.Common.{◌≡◌, ℕ, zero, suc, ◌+◌, ◌<◌, ◌≤◌, true, false, eqb, inl, inr, ◌≢◌, [], ◌∷◌, ◌++◌, map, length, refl, ap, ◌∙◌, arith, eq-eqb, ne_eqb}
+use Rattle.std.proofs.Common.{◌≡◌, ℕ, zero, suc, ◌+◌, ◌<◌, ◌≤◌, true, false, eqb, inl, inr, ◌≢◌, [], ◌∷◌, ◌++◌, map, refl, ap, ◌∙◌, arith, eq-eqb, ne_eqb}
 use Rattle.std.specs.List.{range_with_len}
 use Rattle.std.proofs.lemmas.Bool.{cases_eq}
-use Rattle.parcels.specs.Book.{pick, origin, Book, has, own, with_own, accepted}
+use Rattle.parcels.specs.Book.{Book, has, own, with_own, accepted}
 use Rattle.parcels.specs.declared.Entry.{Entry}
 
 -- the entries of n rows from row a on
@@ -48,7 +48,7 @@ present f a (suc n) key row x =
           (rw t h, rw t o)
     ]
 
-same_entries : (f g : ℕ → Entry) (a n : ℕ) → ((r : ℕ) → a ≤ r → r < a + n → g r ≡ f r) → entries f a n ≡ entries g a n
+pub same_entries : (f g : ℕ → Entry) (a n : ℕ) → ((r : ℕ) → a ≤ r → r < a + n → g r ≡ f r) → entries f a n ≡ entries g a n
 same_entries f g a zero same = refl
 same_entries f g a (suc n) same =
     let first : g a ≡ f a = same a (omega arith) (omega arith) in
@@ -79,18 +79,8 @@ unfolding has with_own
 put_behind [] e none = refl
 put_behind (x ∷ xs) e none = grind (arith, put_behind xs e)
 
-pub accepted_behind : (o : ℕ) (b : Book) (e : Entry) → accepted o (b ++ e ∷ []) ≡ accepted o b + pick (eqb (origin e.key) o) 1 0
-unfolding accepted
-accepted_behind o [] e = omega arith
-accepted_behind o (x ∷ xs) e = omega (arith, accepted_behind o xs e)
-
 -- how many were accepted goes by keys alone
 pub accepted_same : (o : ℕ) (f g : ℕ → Entry) (a n : ℕ) → ((r : ℕ) → (g r).key ≡ (f r).key) → accepted o (entries g a n) ≡ accepted o (entries f a n)
 unfolding accepted
 accepted_same o f g a zero same = refl
 accepted_same o f g a (suc n) same = rw (same a, accepted_same o f g (a + 1) n same)
-
-pub accepted_few : (o : ℕ) (b : Book) → accepted o b ≤ length b
-unfolding accepted
-accepted_few o [] = omega arith
-accepted_few o (x ∷ xs) = grind (arith, accepted_few o xs)

@@ -5,7 +5,7 @@ use Rattle.std.proofs.lemmas.Bool.{cases_eq}
 use Rattle.std.proofs.lemmas.Bool.Decides.{nat_tests}
 use Rattle.parcels.specs.Book.{pick}
 use Rattle.rows.specs.declared.Link.{Link}
-use Rattle.book.specs.Tree.{Tree, root, key_bits, turns_right, link_below, Spot, at, free, seek, height, Hangs, SoundTree}
+use Rattle.book.specs.Tree.{Tree, root, key_bits, turns_right, link_below, Spot, at, free, seek, height, Hangs, SoundTree, spot_of}
 
 bit_of : (x : ℕ) → pick (eqb (x % 2) 1) 1 0 ≡ x % 2
 bit_of x = grind (arith, nat_tests)
@@ -42,12 +42,6 @@ pub data Way (t : Tree) (n key : ℕ) : ℕ → Link → Spot → Type 0 where
   ends : {h : ℕ} {l : Link} → l.row ≤ n → t.link l ≢ 0 → t.link l ≤ n → t.key (t.link l) ≡ key → Way t n key h l (at (t.link l) h)
   goes : {h : ℕ} {l : Link} {s : Spot} → l.row ≤ n → t.link l ≢ 0 → t.link l ≤ n → t.key (t.link l) ≢ key →
       Way t n key h (link_below (t.link l) h key) s → Way t n key (suc h) l s
-
--- a way leads where the search ends
-pub way_seek : {t : Tree} {n key h : ℕ} {l : Link} {s : Spot} → Way t n key h l s → seek t h l key ≡ s
-way_seek {t} {n} {key} (stops {h} {l} hangs none) = seek_free t h l key none
-way_seek {t} {n} {key} (ends {h} {l} _ some _ k) = seek_here t h l key some k
-way_seek {t} {n} {key} (goes {h} {l} _ some _ k w) = seek_on t h l key some k ∙ way_seek w
 
 -- a link hangs in the root or in one of the rows
 pub hangs_row : (t : Tree) (n h prefix : ℕ) (l : Link) → Hangs t n h prefix l → l.row ≤ n
@@ -91,7 +85,7 @@ module _ (t : Tree) (n : ℕ) (sound : SoundTree t n) where
   pub hangs_root : (key : ℕ) → key < 2 ^ key_bits → Hangs t n key_bits (key / 2 ^ key_bits) root
   hangs_root key small = inl (refl, refl, omega arith)
 
-  pub whole_way : (key : ℕ) → key < 2 ^ key_bits → Way t n key key_bits root (seek t key_bits root key)
+  pub whole_way : (key : ℕ) → key < 2 ^ key_bits → Way t n key key_bits root (spot_of t key)
   whole_way key small = way key_bits root key (hangs_root key small)
 
 -- where a way ends at a row, the row has the key

@@ -4,3 +4,6 @@ pub mod Tree
 pub mod Search
 pub mod Sound
 pub mod Keeping
+pub mod Keys
+pub mod Adding
+pub mod View

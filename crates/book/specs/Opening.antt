@@ -13,5 +13,5 @@ abbrev pub bad_limits : Refusal
 bad_limits = record { reason = BadOpening; place = 1 }
 
 -- memory smaller than the limits ask for
-abbrev pub no_room : Refusal
-no_room = record { reason = BadOpening; place = 0 }
+abbrev pub small_memory : Refusal
+small_memory = record { reason = BadOpening; place = 0 }

@@ -49,9 +49,13 @@ seek t zero l key = pick (t.link l == 0) (free l zero) (at (t.link l) zero)
 seek t (suc h) l key =
     pick (t.link l == 0) (free l (suc h)) (pick (t.key (t.link l) == key) (at (t.link l) (suc h)) (seek t h (link_below (t.link l) h key) key))
 
+-- where the whole search for a key ends
+abbrev pub spot_of : Tree → ℕ → Spot
+spot_of t key = seek t key_bits root key
+
 -- how many bits are left at a row, by the search for its key
 unfoldable pub height : Tree → ℕ → ℕ
-height t row = spot_height (seek t key_bits root (t.key row))
+height t row = spot_height (spot_of t (t.key row))
 
 -- a link that can be come to with so many bits left, by keys that begin with this prefix: the root, or a link of one
 -- of the first n rows
@@ -81,7 +85,7 @@ pub record Row (n : ℕ) : Type 0 where
 
 -- each row has a key of so many bits, by which it is found
 abbrev pub Found : Tree → ℕ → Type 0
-Found t n = (x : Row n) → (t.key x.row < 2 ^ key_bits) × (spot_row (seek t key_bits root (t.key x.row)) ≡ x.row)
+Found t n = (x : Row n) → (t.key x.row < 2 ^ key_bits) × (spot_row (spot_of t (t.key x.row)) ≡ x.row)
 
 -- a sound tree of n rows
 pub record SoundTree (t : Tree) (n : ℕ) : Type 0 where

@@ -1,12 +1,27 @@
 // An office's book: what it has of each parcel by its own calls, in memory that the caller lends.
 #![tactic(auto)]
 
+ghost use Rattle.std.specs.Prelude.{◌≡◌, ◌≤◌, true, length, MatchOption, is_ok, IsErr};
+ghost use Rattle.parcels.specs.Book.{has_room, accepted};
+ghost use Rattle.parcels.specs.Calls.{new_key};
+ghost use Rattle.book.specs.Search.{RowOf};
 ghost use Rattle.book.specs.Sound.{Sound};
+ghost use Rattle.book.specs.Keys.{next_key, NewKey};
+ghost use Rattle.book.specs.Keeping.{looked_up, Distinct, can_put, put_in, SameElsewhere};
 
+use key::KeyParts;
 use opening::Opening;
+use parcels::Entry;
+use rows::{Link, read_entry, read_head};
+use tree::{ROOT, add, change, seek};
 
+pub mod key;
 pub mod opening;
 mod tree;
+
+// The book has as many parcels as it was opened for.
+#[derive(Clone, Copy, Debug, PartialEq, Eq)]
+pub struct Full;
 
 // The memory, and what the office was opened with. The invariant: the memory is sound.
 #[derive(Drop)]
@@ -14,4 +29,102 @@ pub struct Book<'a> {
     memory: &'a mut [u32],
     opening: Opening,
     ghost sound: { Sound opening.own opening.parcels memory.now },
+}
+
+impl<'a> Book<'a> {
+    ghost use Rattle.book.specs.View.{book_in};
+
+    // A book over memory that was laid out, or that another such book left: either is sound.
+    pub fn over(opening: Opening, memory: &'a mut [u32]) -> Book<'a>
+        requires { Sound opening.own opening.parcels memory.old }
+        ensures same_opening { result.opening ≡ opening }
+        ensures same { result.memory.now ≡ memory.old }
+        ensures same_reference { result.memory.ghost_name ≡ memory.entry.ghost_name }
+    {
+        Book { memory, opening }
+    }
+
+    // How many parcels it has.
+    #[tactic(auto, using(crate::proofs::Kept::book_length))]
+    pub fn count(&self) -> u32
+        ensures value { result ≡ length (book_in self.now) }
+        ensures limit { result ≤ self.now.opening.parcels }
+    {
+        read_head(self.memory).count
+    }
+
+    // Whether there is room for one more.
+    pub fn has_room(&self) -> bool
+        ensures { result ≡ has_room self.now.opening.parcels (book_in self.now) }
+    {
+        self.count() < self.opening.parcels
+    }
+
+    // How many parcels this office accepted.
+    pub fn accepted(&self) -> u32
+        ensures { result ≡ accepted self.now.opening.own (book_in self.now) }
+    {
+        read_head(self.memory).accepted
+    }
+
+    // The key of the next parcel that this office accepts.
+    fn new_key(&self) -> u32
+        requires { has_room self.now.opening.parcels (book_in self.now) ≡ true }
+        ensures value { result ≡ new_key self.now.opening.own (book_in self.now) }
+        ensures new { NewKey self.now.opening.own (book_in self.now) result }
+    {
+        // an office's number is small, and it accepted fewer parcels than its limit: nothing is cut off
+        let office = self.opening.own as u16;
+        let before = self.accepted() as u16;
+        KeyParts { office, before }.into()
+    }
+
+    // The same, or none where there is no room for one more.
+    pub fn next_key(&self) -> Option<u32>
+        ensures value { result ≡ next_key self.now.opening.own self.now.opening.parcels (book_in self.now) }
+        ensures new { MatchOption result Unit (λ key. NewKey self.now.opening.own (book_in self.now) key) }
+    {
+        if !self.has_room() {
+            return None;
+        }
+        Some(self.new_key())
+    }
+
+    // The row of a key, or the link by which its row would hang.
+    fn row_of(&self, key: u32) -> Result<u32, Link>
+        ensures { RowOf self.now.memory.now key result }
+    {
+        seek(self.memory, ROOT, key, u32::BITS)
+    }
+
+    // What it has of a parcel.
+    pub fn find(&self, key: u32) -> Option<Entry>
+        ensures value { result ≡ looked_up (book_in self.now) key }
+        ensures distinct { Distinct (book_in self.now) }
+    {
+        let row = self.row_of(key).ok()?;
+        Some(read_entry(self.memory, row))
+    }
+
+    // Puts in an entry: in place of the one with its key, or, where there is none and room for one more, behind the
+    // others.
+    pub fn put(&mut self, entry: Entry) -> Result<(), Full>
+        ensures value { is_ok result ≡ can_put self.old.opening.parcels (book_in self.old) entry }
+        ensures after { book_in self.new ≡ put_in self.old.opening.parcels (book_in self.old) entry }
+        ensures same { IsErr result → self.new.memory.now ≡ self.old.memory.now }
+        ensures elsewhere { SameElsewhere self.old.memory.now self.new.memory.now }
+        ensures same_opening { self.new.opening ≡ self.old.opening }
+        ensures same_reference { self.new.memory.ghost_name ≡ self.old.memory.ghost_name }
+    {
+        match self.row_of(entry.key) {
+            Ok(row) => change(self.memory, row, entry),
+            Err(end) => {
+                if !self.has_room() {
+                    return Err(Full);
+                }
+                add(self.memory, self.opening, end, entry);
+            }
+        }
+        Ok(())
+    }
 }

@@ -1,12 +1,13 @@
 // What an office is opened with.
-ghost use Rattle.std.specs.Prelude.{◌≡◌, ◌+◌, ◌*◌, ◌<◌, ◌≤◌, true, false, length, Ok, Err};
+ghost use Rattle.std.specs.Prelude.{◌≡◌, ◌+◌, ◌*◌, ◌≤◌, true};
 ghost use Rattle.parcels.specs.Numbers.{words_a_parcel, words_more};
 ghost use Rattle.rows.specs.Layout.{words_for};
-ghost use Rattle.book.specs.Opening.{in_range, bad_limits, no_room};
-ghost use Rattle.book.specs.Keeping.{LaidOut};
+ghost use Rattle.book.specs.Opening.{in_range};
+ghost use Rattle.book.specs.Keeping.{LaysOut};
 
+use crate::tree::clear;
 use parcels::{Reason, Refusal};
-use rows::{Head, Link, words_for, write_head, write_link};
+use rows::words_for;
 
 // The fewest and the most offices that a post has.
 pub const MIN_OFFICES: u32 = 2;
@@ -20,15 +21,16 @@ pub const MAX_PARCELS: u32 = 65_536;
 // in range. They come one by one, from a line of a file or a count of offices, and go together from here on.
 #[derive(Clone, Copy)]
 pub struct Opening {
-    offices: u32,
-    own: u32,
-    parcels: u32,
+    pub(crate) offices: u32,
+    pub(crate) own: u32,
+    pub(crate) parcels: u32,
     ghost good: { in_range offices own parcels ≡ true },
 }
 
 impl Opening {
     ghost use Rattle.book.specs.Opened.{Opens};
 
+    // Takes limits that are in range.
     pub fn new(offices: u32, own: u32, parcels: u32) -> Result<Opening, Refusal>
         ensures { Opens offices own parcels result }
     {
@@ -58,7 +60,7 @@ impl Opening {
 
     // Lays out an empty book in the first words of the memory. The rows are written as parcels come.
     pub fn lay_out(&self, memory: &mut [u32]) -> Result<(), Refusal>
-        ensures { elim result [ Ok _ ↦ LaidOut self.now.own self.now.parcels memory.old memory.new | Err e ↦ (length memory.old < words_for self.now.parcels) × (e ≡ no_room) × (memory.new ≡ memory.old) ] }
+        ensures { LaysOut self.now.own self.now.parcels memory.old memory.new result }
     {
         if memory.len() < self.words() {
             return Err(Refusal {
@@ -66,14 +68,7 @@ impl Opening {
                 place: 0,
             });
         }
-        write_head(
-            memory,
-            Head {
-                parcels: 0,
-                accepted: 0,
-            },
-        );
-        write_link(memory, Link::ROOT, None);
+        clear(memory);
         Ok(())
     }
 }

@@ -1,5 +1,5 @@
 -- What a row means after some words of memory were written.
-use Rattle.std.proofs.Common.{◌≡◌, ℕ, ◌+◌, ◌*◌, ◌/◌, ◌%◌, ◌<◌, ◌≤◌, Bool, ◌≢◌, List, length, get_or, set, sym, ap, ◌∙◌, arith, lit<, rules}
+use Rattle.std.proofs.Common.{◌≡◌, ℕ, ◌+◌, ◌*◌, ◌/◌, ◌%◌, ◌<◌, ◌≤◌, Bool, ◌≢◌, List, ◌++◌, length, get_or, set, drop, refl, sym, ap, ◌∙◌, arith, lit<, rules}
 use borrow.Rule.Slice.PartMut.{put_mid}
 use Rattle.std.proofs.lemmas.List.{places, get_or-set_same, get_or-set_other}
 use Rattle.parcels.specs.Numbers.{four_bytes}
@@ -7,7 +7,7 @@ use Rattle.parcels.specs.declared.Kind.{Kind}
 use Rattle.parcels.specs.declared.Entry.{Entry}
 use Rattle.rows.specs.declared.Head.{Head}
 use Rattle.rows.specs.declared.Link.{Link}
-use Rattle.rows.specs.Layout.{row_words, words_for, word, entry_at, entry_words, marks_of, kind_marked, paid_marked, link_word, link_at, head_at, SameOutside, EntryWritten, LinkWritten, HeadWritten}
+use Rattle.rows.specs.Layout.{row_words, words_for, word, entry_at, entry_words, marks_of, kind_marked, paid_marked, link_word, link_at, head_at, head_words, SameOutside, SameSpare, EntryWritten, LinkWritten, HeadWritten}
 
 -- an entry whose words are the same is the same
 pub same_entry : (m m' : List ℕ) (r : ℕ) → ((i : ℕ) → i < 7 → word m' r i ≡ word m r i) → entry_at m' r ≡ entry_at m r
@@ -62,13 +62,13 @@ entry_written m m' row e words rest =
     }
 
 -- an entry's words, copied to the front of its row
-pub entry_copied : (m ys : List ℕ) (row k : ℕ) (e : Entry) → k ≡ 7 → ys ≡ entry_words e → words_for row ≤ length m → EntryWritten m (put_mid (row_words * row) k m ys) row e
-entry_copied m ys row k e seven is room =
+pub entry_copied : (m ys : List ℕ) (row at k : ℕ) (e : Entry) → at ≡ row_words * row → k ≡ 7 → ys ≡ entry_words e → words_for row ≤ length m → EntryWritten m (put_mid at k m ys) row e
+entry_copied m ys row at k e start seven is room =
     let long : length ys ≡ k = ap length is ∙ sym seven in
     let fits : row_words * row + k ≤ length m = omega arith in
-    entry_written m (put_mid (row_words * row) k m ys) row e
+    rw start (entry_written m (put_mid (row_words * row) k m ys) row e
     (λ i h. inside (row_words * row) k i m ys long fits (omega arith) ∙ (cc))
-    (λ i out. outside (row_words * row) k m ys long fits i (λ p q. out p (omega arith)))
+    (λ i out. outside (row_words * row) k m ys long fits i (λ p q. out p (omega arith))))
 
 -- one word was written at a link's place
 pub link_set : (m : List ℕ) (l : Link) (at to : ℕ) → at ≡ link_word l → words_for l.row ≤ length m → LinkWritten m (set m at to) l to
@@ -85,20 +85,29 @@ link_set m l at to e room =
       rest = λ i out. rest i (λ p. out (omega arith) (omega arith));
     }
 
--- the counts were written
-pub head_set : (m : List ℕ) (h : Head) → words_for 0 ≤ length m → HeadWritten m (set (set m 0 h.parcels) 1 h.accepted) h
+-- the counts' words, copied to the front of the memory
+pub head_copied : (m ys : List ℕ) (h : Head) → ys ≡ head_words h → words_for 0 ≤ length m → HeadWritten m (ys ++ drop 2 m) h
 unfolding link_at head_at
-head_set m h room =
-    let m₁ : List ℕ = set m 0 h.parcels in
-    let m₂ : List ℕ = set m₁ 1 h.accepted in
-    let rest : (i : ℕ) → 2 ≤ i → get_or m₂ i 0 ≡ get_or m i 0 =
-    λ i two. search (rules, places) in
-    let first : get_or m₂ 0 0 ≡ h.parcels = search (rules, places) in
-    let second : get_or m₂ 1 0 ≡ h.accepted = search (rules, places) in
-    let counts : head_at m₂ ≡ record { parcels = h.parcels; accepted = h.accepted } = cc in
-    record {
+head_copied m ys h is room =
+    let m' : List ℕ = head_words h ++ drop 2 m in
+    let rest : (i : ℕ) → 2 ≤ i → get_or m' i 0 ≡ get_or m i 0 = λ i two. search (rules, places) in
+    let counts : head_at m' ≡ record { count = h.count; accepted = h.accepted } = refl in
+    rw is (record {
       head = counts;
-      entries = λ r one. same_entry m m₂ r (λ i _. rest (row_words * r + i) (omega arith));
+      entries = λ r one. same_entry m m' r (λ i _. rest (row_words * r + i) (omega arith));
       links = λ l. rest (link_word l) (let place = link_place l in omega arith);
       rest = λ i out. rest i (grind (arith, out));
-    }
+    })
+
+-- what each write leaves of the words that hold nothing
+pub entry_spares : (m m' : List ℕ) (row : ℕ) (e : Entry) → 1 ≤ row → EntryWritten m m' row e → SameSpare m m'
+entry_spares m m' row e one w = (λ r i low high. w.rest (row_words * r + i) (λ a b. omega arith), λ i low high. w.rest (row_words * 0 + i) (λ a b. omega arith))
+
+pub link_spares : (m m' : List ℕ) (l : Link) (to : ℕ) → LinkWritten m m' l to → SameSpare m m'
+link_spares m m' l to w = (λ r i low high. w.rest (row_words * r + i) (λ a b. omega arith), λ i low high. w.rest (row_words * 0 + i) (λ a b. omega arith))
+
+pub head_spares : (m m' : List ℕ) (h : Head) → HeadWritten m m' h → SameSpare m m'
+head_spares m m' h w = (λ r i low high. w.rest (row_words * r + i) (λ a b. omega arith), λ i low high. w.rest (row_words * 0 + i) (λ a b. omega arith))
+
+pub spares_on : (m m' m'' : List ℕ) → SameSpare m m' → SameSpare m' m'' → SameSpare m m''
+spares_on m m' m'' x y = (λ r i low high. y.0 r i low high ∙ x.0 r i low high, λ i low high. y.1 i low high ∙ x.1 i low high)

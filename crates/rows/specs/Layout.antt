@@ -1,6 +1,6 @@
 -- What an office's memory means: words of four bytes, in rows. Row 0 is the head; each later row has one parcel, in
 -- the order in which they came.
-use Rattle.std.specs.Prelude.{◌≡◌, ℕ, ◌+◌, ◌*◌, ◌/◌, ◌%◌, ◌<◌, ◌≤◌, Bool, not, ◌≢◌, List, [], ◌∷◌, map, ◌==◌, bit_and, bit_or, slice_index, Option, Some, None}
+use Rattle.std.specs.Prelude.{◌≡◌, ℕ, ◌+◌, ◌*◌, ◌/◌, ◌%◌, ◌<◌, ◌≤◌, Bool, not, ◌≢◌, List, [], ◌∷◌, length, map, ◌==◌, bit_and, bit_or, slice_index, Option, Some, None}
 use Rattle.std.specs.List.{range_with_len}
 use Rattle.parcels.specs.Numbers.{four_bytes, kind_number}
 use Rattle.parcels.specs.Book.{pick, Book}
@@ -18,16 +18,21 @@ row_words = 24
 abbrev pub words_for : ℕ → ℕ
 words_for parcels = row_words * (parcels + 1)
 
+-- a row lies in memory
+abbrev pub HasRow : List ℕ → ℕ → Type 0
+HasRow m row = words_for row ≤ length m
+
 -- a word of a row
 abbrev pub word : List ℕ → ℕ → ℕ → ℕ
 word m row i = slice_index m (row_words * row + i)
 
--- the kind of step in the two lowest bits of a row's marks
-abbrev pub kind_bits : ℕ → Kind
-kind_bits n = pick (n == 0) Accepted (pick (n == 1) SentOn (pick (n == 2) ComeIn HandedOut))
+-- the kind with this number, of two bits
+abbrev pub kind_numbered : ℕ → Kind
+kind_numbered n = pick (n == 0) Accepted (pick (n == 1) SentOn (pick (n == 2) ComeIn HandedOut))
 
+-- the kind of step in the two lowest bits of a row's marks
 abbrev pub kind_marked : ℕ → Kind
-kind_marked marks = kind_bits (bit_and marks 3)
+kind_marked marks = kind_numbered (bit_and marks 3)
 
 -- the next bit says whether it was paid
 abbrev pub paid_marked : ℕ → Bool
@@ -66,17 +71,26 @@ link_at m l = slice_index m (link_word l)
 abbrev pub row_named : ℕ → Option ℕ
 row_named n = pick (n == 0) None (Some n)
 
--- the counts in the head
+-- the words of the counts in the head
+abbrev pub head_words : Head → List ℕ
+head_words h = h.count ∷ (h.accepted ∷ [])
+
+-- those counts
 unfoldable pub head_at : List ℕ → Head
-head_at m = record { parcels = word m 0 0; accepted = word m 0 1 }
+head_at m = record { count = word m 0 0; accepted = word m 0 1 }
 
 -- the book that the memory means: the entries of as many rows as the head counts
-unfoldable pub book_of : List ℕ → Book
-book_of m = map (entry_at m) (range_with_len 1 (head_at m).parcels)
+unfoldable pub book_at : List ℕ → Book
+book_at m = map (entry_at m) (range_with_len 1 (head_at m).count)
 
 -- the words from one place up to another may have changed, and no others
 abbrev pub SameOutside : ℕ → ℕ → List ℕ → List ℕ → Type 0
 SameOutside from to m m' = (i : ℕ) → (from ≤ i → i < to → ⊥) → slice_index m' i ≡ slice_index m i
+
+-- the words that are kept free stayed as they were: in each row those behind the links, in the head also those between
+-- the counts and the root
+abbrev pub SameSpare : List ℕ → List ℕ → Type 0
+SameSpare m m' = ((row i : ℕ) → 9 ≤ i → i < row_words → word m' row i ≡ word m row i) × ((i : ℕ) → 2 ≤ i → i < 7 → word m' 0 i ≡ word m 0 i)
 
 -- an entry was written into a row, and nothing else changed
 pub record EntryWritten (m m' : List ℕ) (row : ℕ) (e : Entry) : Type 0 where

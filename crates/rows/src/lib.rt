@@ -3,21 +3,21 @@
 // given lies in memory: a type for such a row would ask the same where one is made.
 #![tactic(auto)]
 
-ghost use Rattle.std.specs.Prelude.{◌≡◌, ℕ, ◌+◌, ◌*◌, ◌<◌, ◌≤◌, length, unwrap_or};
+ghost use Rattle.std.specs.Prelude.{◌≡◌, ◌+◌, ◌*◌, ◌≤◌, unwrap_or};
 ghost use Rattle.parcels.specs.Numbers.{words_a_parcel, words_more};
-ghost use Rattle.rows.specs.Layout.{words_for, kind_marked, paid_marked, marks_of, entry_words, entry_at, link_word, link_at, row_named, head_at, EntryWritten, LinkWritten, HeadWritten};
+ghost use Rattle.rows.specs.Layout.{row_words, words_for, HasRow, kind_marked, paid_marked, marks_of, entry_words, entry_at, link_word, link_at, row_named, head_at, head_words, EntryWritten, LinkWritten, HeadWritten};
 
 use parcels::{Entry, Kind};
 
 // The counts in the head: how many parcels the book has, and how many of them this office accepted.
 #[derive(Clone, Copy)]
 pub struct Head {
-    pub parcels: u32,
+    pub count: u32,
     pub accepted: u32,
 }
 
-// One of a row's two places for the number of another row. `right` is a bit of a key, as the search comes to it: an
-// enum of two sides would say no more.
+// One of a row's two places for the number of another row: `row` is where it stands, and its word says where it leads.
+// `right` is a bit of a key, as the search comes to it: an enum of two sides would say no more.
 #[derive(Clone, Copy)]
 pub struct Link {
     pub row: u32,
@@ -25,18 +25,12 @@ pub struct Link {
 }
 
 impl Link {
-    // The head's link.
-    pub const ROOT: Link = Link {
-        row: 0,
-        right: false,
-    };
-
     // The place of its word in memory.
     fn word(self) -> usize
         ensures { result ≡ link_word self }
     {
         let place = if self.right { RIGHT } else { LEFT };
-        ROW_WORDS * self.row as usize + place
+        row_start(self.row) + place
     }
 }
 
@@ -69,9 +63,11 @@ const NO_ROW: u32 = 0;
 const ENTRY_WORDS: usize = 7;
 
 // The head's words.
-const PARCELS: usize = 0;
+const COUNT: usize = 0;
 
 const ACCEPTED: usize = 1;
+
+const HEAD_WORDS: usize = 2;
 
 // Bits of the marks.
 const KIND_BITS: u32 = 3;
@@ -81,6 +77,13 @@ const PAID_BIT: u32 = 4;
 // So many values a word has: the high word of a step counts so many of the low one. (std takes a number apart into
 // bytes, not into words.)
 const WORD_END: u64 = 4_294_967_296;
+
+// The place of a row's first word.
+fn row_start(row: u32) -> usize
+    ensures { result ≡ row_words * row }
+{
+    ROW_WORDS * row as usize
+}
 
 // How many words of memory a limit of parcels asks for.
 pub fn words_for(parcels: u32) -> usize
@@ -106,10 +109,10 @@ fn is_paid(marks: u32) -> bool
 // The entry of a row.
 #[tactic(auto, unfolding(crate::specs::Layout::entry_at))]
 pub fn read_entry(memory: &[u32], row: u32) -> Entry
-    requires { words_for row ≤ length memory.now }
+    requires { HasRow memory.now row }
     ensures { result ≡ entry_at memory.now row }
 {
-    let at = ROW_WORDS * row as usize;
+    let at = row_start(row);
     let marks = memory[at + MARKS];
     Entry {
         key: memory[at + KEY],
@@ -125,10 +128,10 @@ pub fn read_entry(memory: &[u32], row: u32) -> Entry
 // The key in a row.
 #[tactic(auto, unfolding(crate::specs::Layout::entry_at))]
 pub fn read_key(memory: &[u32], row: u32) -> u32
-    requires { words_for row ≤ length memory.now }
+    requires { HasRow memory.now row }
     ensures { result ≡ (entry_at memory.now row).key }
 {
-    memory[ROW_WORDS * row as usize + KEY]
+    memory[row_start(row) + KEY]
 }
 
 fn marks(kind: Kind, paid: bool) -> u32
@@ -154,50 +157,68 @@ fn entry_words(entry: Entry) -> [u32; ENTRY_WORDS]
 
 // Writes an entry into its row; the row's links stay.
 pub fn write_entry(memory: &mut [u32], row: u32, entry: Entry)
-    requires { words_for row ≤ length memory.old }
+    requires { HasRow memory.old row }
     ensures { EntryWritten memory.old memory.new row entry }
 {
-    let at = ROW_WORDS * row as usize;
+    let at = row_start(row);
     memory[at..at + ENTRY_WORDS].copy_from_slice(&entry_words(entry));
 }
 
-// The row that a link leads to.
-#[tactic(auto, unfolding(crate::specs::Layout::link_at))]
-pub fn read_link(memory: &[u32], link: Link) -> Option<u32>
-    requires { words_for link.row ≤ length memory.now }
-    ensures { result ≡ row_named (link_at memory.now link) }
+// A link's word, and the row that it names. Row 0 is the head, to which no link leads: its number is for none.
+fn row_named(word: u32) -> Option<u32>
+    ensures { result ≡ row_named word }
 {
-    match memory[link.word()] {
+    match word {
         NO_ROW => None,
         row => Some(row),
     }
 }
 
-// Leads a link to a row, or nowhere. Row 0 is the head, to which no link leads: it counts as none, so that no caller
-// has to rule it out, as for a NonZeroU32.
+fn word_naming(row: Option<u32>) -> u32
+    ensures { result ≡ unwrap_or row 0 }
+{
+    row.unwrap_or(NO_ROW)
+}
+
+// The row that a link leads to.
+#[tactic(auto, unfolding(crate::specs::Layout::link_at))]
+pub fn read_link(memory: &[u32], link: Link) -> Option<u32>
+    requires { HasRow memory.now link.row }
+    ensures { result ≡ row_named (link_at memory.now link) }
+{
+    row_named(memory[link.word()])
+}
+
+// Leads a link to a row, or nowhere. Row 0 counts as none, so that no caller has to rule it out.
 pub fn write_link(memory: &mut [u32], link: Link, row: Option<u32>)
-    requires { words_for link.row ≤ length memory.old }
+    requires { HasRow memory.old link.row }
     ensures { LinkWritten memory.old memory.new link (unwrap_or row 0) }
 {
-    memory[link.word()] = row.unwrap_or(NO_ROW);
+    memory[link.word()] = word_naming(row);
 }
 
 // The counts in the head.
 #[tactic(auto, unfolding(crate::specs::Layout::head_at))]
 pub fn read_head(memory: &[u32]) -> Head
-    requires { words_for 0 ≤ length memory.now }
+    requires { HasRow memory.now 0 }
     ensures { result ≡ head_at memory.now }
 {
     Head {
-        parcels: memory[PARCELS],
+        count: memory[COUNT],
         accepted: memory[ACCEPTED],
     }
 }
 
+fn head_words(head: Head) -> [u32; HEAD_WORDS]
+    ensures { result ≡ head_words head }
+{
+    [head.count, head.accepted]
+}
+
+// Writes the counts; the root stays.
 pub fn write_head(memory: &mut [u32], head: Head)
-    requires { words_for 0 ≤ length memory.old }
+    requires { HasRow memory.old 0 }
     ensures { HeadWritten memory.old memory.new head }
 {
-    memory[PARCELS] = head.parcels;
-    memory[ACCEPTED] = head.accepted;
+    memory[..HEAD_WORDS].copy_from_slice(&head_words(head));
 }

@@ -3,7 +3,7 @@ use Rattle.std.proofs.lemmas.Bool.Decides.{nat_tests}
 use Rattle.rows.specs.Layout.{words_for, head_at, entry_at, link_at, row_named}
 use Rattle.rows.specs.declared.Link.{Link}
 use Rattle.book.specs.Tree.{tree_of, link_below, seek}
-use Rattle.book.specs.Search.{place_of, Searchable}
+use Rattle.book.specs.Search.{end_of, Searchable}
 use Rattle.book.proofs.Search.{seek_free, seek_here, seek_last, seek_on, leads, hangs_below}
 use Rattle.book.proofs.tree.+seek.Goals as goal
 use Rattle.book.proofs.tree.+seek.Goals.{then-height-eq0-via-then-height-eq0, then-height-eq0-via-else-height-eq0+then-read_key-key}
@@ -25,8 +25,8 @@ module _ (m : List ℕ) (l : Link) (key row : ℕ) (is : Some row ≡ row_named 
   -- whose words are in memory
   row_room : (h : ℕ) → Searchable m l key h → words_for row ≤ length m
   row_room h s =
-      let (low, _, _) = leads (tree_of m) (head_at m).parcels s.tree h (key / 2 ^ h) l s.hangs leads_on in
-      let room = s.room in
+      let (low, _, _) = leads (tree_of m) (head_at m).count s.tree h (key / 2 ^ h) l s.hangs leads_on in
+      let enough = s.enough in
       let e = there in
       omega arith
 
@@ -34,19 +34,19 @@ module _ (m : List ℕ) (l : Link) (key row : ℕ) (is : Some row ≡ row_named 
   below : (h : ℕ) → Searchable m l key (suc h) → Searchable m (link_below row h key) key h
   below h s =
       rw there (record {
-        room = s.room;
+        enough = s.enough;
         tree = s.tree;
-        hangs = hangs_below (tree_of m) (head_at m).parcels s.tree h key l s.hangs leads_on;
+        hangs = hangs_below (tree_of m) (head_at m).count s.tree h key l s.hangs leads_on;
         high = let high = s.high in omega arith;
       })
 
-  last : (h : ℕ) → h ≡ 0 → Ok row ≡ place_of (seek (tree_of m) h l key)
+  last : (h : ℕ) → h ≡ 0 → Ok row ≡ end_of (seek (tree_of m) h l key)
   last h e = rw (e, there, seek_last (tree_of m) l key leads_on)
 
-  here : (h : ℕ) → (entry_at m row).key ≡ key → Ok row ≡ place_of (seek (tree_of m) h l key)
+  here : (h : ℕ) → (entry_at m row).key ≡ key → Ok row ≡ end_of (seek (tree_of m) h l key)
   here h k = rw (seek_here (tree_of m) h l key leads_on (rw (← there) k), there)
 
-  on : (h : ℕ) → (entry_at m row).key ≢ key → place_of (seek (tree_of m) h (link_below row h key) key) ≡ place_of (seek (tree_of m) (suc h) l key)
+  on : (h : ℕ) → (entry_at m row).key ≢ key → end_of (seek (tree_of m) h (link_below row h key) key) ≡ end_of (seek (tree_of m) (suc h) l key)
   on h k = rw (seek_on (tree_of m) h l key leads_on (rw (← there) k), there)
 
 pub returns-in_default : goal.returns-in_default
@@ -69,12 +69,13 @@ pub seek-requires : goal.seek-requires
 seek-requires t c =
     let one : suc (c.args.height - 1) ≡ c.args.height = let h = c.if-height-eq0.false in omega arith in (
       omega arith,
-      below c.args.memory.now c.args.link c.args.key c.in-Some.row c.in-Some.ensures (c.args.height - 1) (rw one c.requires),
+      rw c.turns_right-right.ensures (below c.args.memory.now c.args.link c.args.key c.in-Some.row c.in-Some.ensures (c.args.height - 1) (rw one c.requires)),
     )
 
 pub returns : goal.returns
 returns t c =
     let one : suc (c.args.height - 1) ≡ c.args.height = let h = c.if-height-eq0.false in omega arith in
     c.seek.ensures
+    ∙ ap (λ t. end_of (seek (tree_of c.args.memory.now) (c.args.height - 1) (record { row = c.in-Some.row; right = t }) c.args.key)) c.turns_right-right.ensures
     ∙ on c.args.memory.now c.args.link c.args.key c.in-Some.row c.in-Some.ensures (c.args.height - 1) (λ k. c.if-read_key-key.false (c.read_key.ensures ∙ k))
-    ∙ ap (λ h. place_of (seek (tree_of c.args.memory.now) h c.args.link c.args.key)) one
+    ∙ ap (λ h. end_of (seek (tree_of c.args.memory.now) h c.args.link c.args.key)) one

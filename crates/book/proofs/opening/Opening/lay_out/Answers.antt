@@ -4,5 +4,5 @@ use Rattle.book.proofs.opening.Opening.lay_out.Goals as goal
 
 pub returns : goal.returns
 returns c =
-    laid_out c.args.self.now.own c.args.self.now.parcels c.args.memory.now c.write_head.new.memory c.write_link.new.memory
-    (omega (arith, c.words.ensures.value, c.if-memory-words.false)) c.write_head.auto.memory c.write_link.auto.memory c.write_head.ensures c.write_link.ensures
+    laid_out c.args.self.now.own c.args.self.now.parcels c.args.memory.now c.clear.new.memory (omega (arith, c.words.ensures.value, c.if-memory-words.false))
+    c.clear.auto.memory c.clear.ensures

@@ -1,0 +1,18 @@
+use Rattle.std.proofs.Common.{◌∙◌, ap, sym, subst}
+use Rattle.std.proofs.lemmas.Bool.{or_left}
+use Rattle.parcels.specs.Book.{pick, with_own}
+use Rattle.rows.specs.Layout.{book_at}
+use Rattle.book.specs.Search.{RowOf}
+use Rattle.book.proofs.Book.put.Goals as goal
+
+pub invariant_of-self : goal.invariant_of-self
+invariant_of-self c = record { sound = (c.change.ensures c.args.self.now.opening.own c.args.self.now.opening.parcels c.args.self.now.sound).sound }
+
+pub returns-in-Ok-clause-after : goal.returns-in-Ok-clause-after
+returns-in-Ok-clause-after c =
+    let (_, _, has, _) = subst (RowOf c.args.self.now.memory.now c.args.entry.key) c.in-Ok.is c.row_of.ensures in
+    (c.change.ensures c.args.self.now.opening.own c.args.self.now.opening.parcels c.args.self.now.sound).after
+    ∙ ap (λ t. pick t (with_own (book_at c.args.self.now.memory.now) c.args.entry) (book_at c.args.self.now.memory.now)) (sym (or_left _ _ has))
+
+pub returns-in-Ok-clause-elsewhere : goal.returns-in-Ok-clause-elsewhere
+returns-in-Ok-clause-elsewhere c = (c.change.ensures c.args.self.now.opening.own c.args.self.now.opening.parcels c.args.self.now.sound).elsewhere
