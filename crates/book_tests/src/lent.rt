@@ -1,0 +1,56 @@
+// A book in lent memory, and what the tests put into it.
+ghost use Rattle.std.specs.Prelude.{◌≡◌};
+
+use book::Book;
+use book::opening::Opening;
+use parcels::{Entry, Kind};
+use std::process::Abort;
+
+// What each lent word is before anything is written.
+pub const LENT: u32 = 0xeeee_eeee;
+
+// An opening with limits that are in range.
+pub fn opened(rt: &impl Abort, offices: u32, own: u32, parcels: u32) -> Opening {
+    let Ok(opening) = Opening::new(offices, own, parcels) else {
+        panic!(rt; "{own} of {offices} offices, {parcels} parcels");
+    };
+    opening
+}
+
+// An empty book, laid out in memory that is large enough.
+pub fn empty_book<'a>(rt: &impl Abort, opening: Opening, memory: &'a mut [u32]) -> Book<'a>
+    ensures same_opening { result.opening ≡ opening }
+    ensures same_reference { result.memory.ghost_name ≡ memory.entry.ghost_name }
+{
+    assert!(rt; opening.lay_out(memory).is_ok());
+    Book::over(opening, memory)
+}
+
+// What is put in of a parcel: no two parcels have the same step, office or amount, and from key 65,536 on the step is
+// wider than a word.
+pub fn entry(key: u32) -> Entry {
+    Entry {
+        key,
+        step: u64::from(key) * 65_537,
+        kind: match key % 4 {
+            0 => Kind::Accepted,
+            1 => Kind::SentOn,
+            2 => Kind::ComeIn,
+            _ => Kind::HandedOut,
+        },
+        to: !key,
+        dest: key.wrapping_mul(3),
+        amount: key.wrapping_mul(5),
+        paid: key / 4 % 2 == 1,
+    }
+}
+
+// Another entry of the same parcel: all but the key differs.
+pub fn changed(key: u32) -> Entry {
+    Entry { key, ..entry(!key) }
+}
+
+// The book has this of the parcel.
+pub fn check_has(rt: &impl Abort, book: &Book, entry: Entry) {
+    assert_eq!(rt; book.find(entry.key), Some(entry));
+}
