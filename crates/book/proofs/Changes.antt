@@ -1,10 +1,10 @@
 -- An entry written into the row of its key, and a row more, leave a sound book, with the entry put in.
-use Rattle.std.proofs.Common.{◌≡◌, ℕ, suc, ◌+◌, ◌<◌, ◌^◌, add-one, true, eqb, List, [], ◌∷◌, ◌++◌, length, map, Ok, Err, inl, inr, sym, ap, ◌∙◌, subst, arith}
+use Rattle.std.proofs.Common.{◌≡◌, ℕ, suc, ◌+◌, ◌<◌, ◌^◌, add-one, Bool, true, false, eqb, List, [], ◌∷◌, ◌++◌, length, map, Ok, Err, inl, inr, sym, ap, ◌∙◌, subst, arith}
 use Rattle.std.specs.List.{range_with_len}
 use Rattle.std.proofs.lemmas.Bool.{cases_eq}
 use Rattle.std.proofs.lemmas.Bool.Decides.{nat_tests}
 use Rattle.std.proofs.lemmas.List.FromFn.{map-range_with_len_more}
-use Rattle.parcels.specs.Book.{pick, origin, with_own, has_room, accepted}
+use Rattle.parcels.specs.Book.{pick, origin, has, with_own, has_room, accepted}
 use Rattle.parcels.specs.declared.Entry.{Entry}
 use Rattle.rows.specs.Layout.{head_at, entry_at, book_at, EntryWritten}
 use Rattle.rows.specs.declared.Head.{Head}
@@ -17,8 +17,8 @@ use Rattle.book.specs.Sound.{Sound}
 use Rattle.book.specs.Keeping.{IsPut}
 use Rattle.book.specs.Adding.{RowAdded}
 use Rattle.book.proofs.Growth.{Grown, grown_sound}
-use Rattle.book.proofs.Lists.{Only, entries, same_entries, replaced, put_behind, accepted_same}
-use Rattle.book.proofs.Kept.{book_length, ends_free, found_row, no_entry, leads_nowhere}
+use Rattle.book.proofs.Lists.{Only, entries, same_entries, replaced, put_behind}
+use Rattle.book.proofs.Kept.{book_length, ends_free, found_row, found_entry, no_entry, leads_nowhere}
 
 -- there is a row left where there is room
 pub rows_left : (parcels : ℕ) (m : List ℕ) → has_room parcels (book_at m) ≡ true → (head_at m).count < parcels
@@ -31,6 +31,13 @@ same_tree : (t t' : Tree) → ((r : ℕ) → t.key r ≡ t'.key r) → ((l : Lin
 same_tree t t' keys links = λ i. record { key = λ r. keys r i; link = λ l. links l i }
 
 module _ (own parcels : ℕ) (m m' : List ℕ) (e : Entry) (sound : Sound own parcels m) (small : e.key < 2 ^ key_bits) (same : length m' ≡ length m) where
+  -- how many were accepted, where the entry was put in
+  accepted_then : book_at m' ≡ with_own (book_at m) e → (t : Bool) → has (book_at m) e.key ≡ t →
+      accepted own (book_at m') ≡ pick t (accepted own (book_at m)) (accepted own (book_at m) + pick (eqb (origin e.key) own) 1 0)
+  accepted_then after t there =
+      ap (accepted own) after ∙ accepted_put own (book_at m) e
+      ∙ ap (λ u. pick u (accepted own (book_at m)) (accepted own (book_at m) + pick (eqb (origin e.key) own) 1 0)) there
+
   module _ (row : ℕ) (found : Ok row ≡ search_end m e.key) (w : EntryWritten m m' row e) where
     is_row : Only (entry_at m) 1 (head_at m).count e.key row
     is_row = found_row m sound.tree e.key small row found
@@ -55,13 +62,9 @@ module _ (own parcels : ℕ) (m m' : List ℕ) (e : Entry) (sound : Sound own pa
     unfolding book_at
     book = ap (entries (entry_at m') 1) count
 
-    few : accepted own (book_at m') ≡ accepted own (book_at m)
+    replaces : book_at m' ≡ with_own (book_at m) e
     unfolding book_at
-    few = ap (accepted own) book ∙ accepted_same own (entry_at m) (entry_at m') 1 (head_at m).count (λ r. sym (keys r))
-
-    put_there : with_own (book_at m) e ≡ book_at m'
-    unfolding book_at
-    put_there = replaced (entry_at m) (entry_at m') 1 (head_at m).count e row is_row w.entry w.others ∙ sym book
+    replaces = book ∙ sym (replaced (entry_at m) (entry_at m') 1 (head_at m).count e row is_row w.entry w.others)
 
     pub changed : IsPut own parcels m m' e
     changed =
@@ -69,10 +72,10 @@ module _ (own parcels : ℕ) (m m' : List ℕ) (e : Entry) (sound : Sound own pa
           sound = record {
             enough = let enough = sound.enough in omega (arith, same);
             few = let few = sound.few in omega (arith, count);
-            counted = ap (λ (h : Head). h.accepted) head ∙ sound.counted ∙ sym few;
+            counted = ap (λ (h : Head). h.accepted) head ∙ sound.counted ∙ sym (accepted_then replaces true (found_entry m sound.tree e.key small row found).0);
             tree = subst (SoundTree (tree_of m')) (sym count) (subst (λ t. SoundTree t (head_at m).count) tree sound.tree);
           };
-          after = sym put_there;
+          after = replaces;
           elsewhere = record {
             size = same;
             spare = entry_spares m m' row e is_row.from w;
@@ -109,18 +112,14 @@ module _ (own parcels : ℕ) (m m' : List ℕ) (e : Entry) (sound : Sound own pa
     after : book_at m' ≡ with_own (book_at m) e
     after = behind ∙ sym (put_behind (book_at m) e (no_entry m sound.tree e.key small end free))
 
-    one_accepted : accepted own (book_at m') ≡ accepted own (book_at m) + pick (eqb (origin e.key) own) 1 0
-    one_accepted =
-        ap (accepted own) after ∙ accepted_put own (book_at m) e
-        ∙ ap (λ t. pick t (accepted own (book_at m)) (accepted own (book_at m) + pick (eqb (origin e.key) own) 1 0)) (no_entry m sound.tree e.key small end free)
-
     pub added : IsPut own parcels m m' e
     added =
         record {
           sound = record {
             enough = let enough = sound.enough in omega (arith, same);
             few = omega (arith, one_more);
-            counted = ap (λ (h : Head). h.accepted) w.head ∙ ap (λ k. k + pick (eqb (origin e.key) own) 1 0) sound.counted ∙ sym one_accepted;
+            counted = ap (λ (h : Head). h.accepted) w.head ∙ ap (λ k. k + pick (eqb (origin e.key) own) 1 0) sound.counted
+                ∙ sym (accepted_then after false (no_entry m sound.tree e.key small end free));
             tree = subst (SoundTree (tree_of m')) (sym one_more)
                 (grown_sound (tree_of m) (tree_of m') (head_at m).count e.key end (spot_height (spot_of (tree_of m) e.key)) sound.tree grown small
                 (ends_free (spot_of (tree_of m) e.key) end free));

@@ -2,7 +2,7 @@
 use Rattle.std.proofs.Common.{◌≡◌, ℕ, zero, suc, ◌+◌, ◌<◌, ◌≤◌, true, false, eqb, inl, inr, ◌≢◌, [], ◌∷◌, ◌++◌, map, refl, ap, ◌∙◌, arith, eq-eqb, ne_eqb}
 use Rattle.std.specs.List.{range_with_len}
 use Rattle.std.proofs.lemmas.Bool.{cases_eq}
-use Rattle.parcels.specs.Book.{Book, has, own, with_own, accepted}
+use Rattle.parcels.specs.Book.{Book, has, own, with_own}
 use Rattle.parcels.specs.declared.Entry.{Entry}
 
 -- the entries of n rows from row a on
@@ -78,9 +78,3 @@ pub put_behind : (b : Book) (e : Entry) → has b e.key ≡ false → with_own b
 unfolding has with_own
 put_behind [] e none = refl
 put_behind (x ∷ xs) e none = grind (arith, put_behind xs e)
-
--- how many were accepted goes by keys alone
-pub accepted_same : (o : ℕ) (f g : ℕ → Entry) (a n : ℕ) → ((r : ℕ) → (g r).key ≡ (f r).key) → accepted o (entries g a n) ≡ accepted o (entries f a n)
-unfolding accepted
-accepted_same o f g a zero same = refl
-accepted_same o f g a (suc n) same = rw (same a, accepted_same o f g (a + 1) n same)

@@ -8,7 +8,7 @@ use Rattle.rows.specs.declared.Link.{Link}
 use Rattle.book.specs.Tree.{root}
 use Rattle.book.specs.Keeping.{SameFrom}
 
--- the head counts nothing, and the root leads nowhere; no other row changed, and no word that holds nothing
+-- the head counts nothing, and the root leads nowhere; no other row changed, and no word that is kept free
 pub record Cleared (m m' : List ℕ) : Type 0 where
   pub head : head_at m' ≡ record { count = 0; accepted = 0 }
   pub root : link_at m' root ≡ 0
@@ -24,7 +24,7 @@ abbrev pub counted_head : ℕ → Head → ℕ → Head
 counted_head own h key = record { count = suc h.count; accepted = h.accepted + pick (origin key == own) 1 0 }
 
 -- the entry was written into that row, which leads nowhere, and a link was led to it; the head counts it. No other entry
--- and no other link changed, nor any word that holds nothing or stands behind that row
+-- and no other link changed, nor any word that is kept free or stands behind that row
 pub record RowAdded (own : ℕ) (m m' : List ℕ) (end : Link) (e : Entry) : Type 0 where
   pub entry : entry_at m' (next_row m) ≡ e
   pub below : (l : Link) → l.row ≡ next_row m → link_at m' l ≡ 0

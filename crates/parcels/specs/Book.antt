@@ -62,7 +62,7 @@ was_handed_out HandedOut = true
 abbrev pub is_here : Book → ℕ → Bool
 is_here b key = has b key && leaves_it_here (own b key).kind
 
--- one parcel more is within the limit
+-- whether one more parcel is within the limit
 abbrev pub has_room : ℕ → Book → Bool
 has_room parcels b = nat_lt (length b) parcels
 

@@ -99,7 +99,7 @@ head_copied m ys h is room =
       rest = λ i out. rest i (grind (arith, out));
     })
 
--- what each write leaves of the words that hold nothing
+-- each write leaves the words that are kept free
 pub entry_spares : (m m' : List ℕ) (row : ℕ) (e : Entry) → 1 ≤ row → EntryWritten m m' row e → SameSpare m m'
 entry_spares m m' row e one w = (λ r i low high. w.rest (row_words * r + i) (λ a b. omega arith), λ i low high. w.rest (row_words * 0 + i) (λ a b. omega arith))
 
