@@ -10,7 +10,7 @@ use std::process::Abort;
 pub const LENT: u32 = 0xeeee_eeee;
 
 // An opening with limits that are in range.
-pub fn opened(rt: &impl Abort, offices: u32, own: u32, parcels: u32) -> Opening {
+pub(crate) fn opened(rt: &impl Abort, offices: u32, own: u32, parcels: u32) -> Opening {
     let Ok(opening) = Opening::new(offices, own, parcels) else {
         panic!(rt; "{own} of {offices} offices, {parcels} parcels");
     };
@@ -18,7 +18,7 @@ pub fn opened(rt: &impl Abort, offices: u32, own: u32, parcels: u32) -> Opening 
 }
 
 // An empty book, laid out in memory that is large enough.
-pub fn empty_book<'a>(rt: &impl Abort, opening: Opening, memory: &'a mut [u32]) -> Book<'a>
+pub(crate) fn empty_book<'a>(rt: &impl Abort, opening: Opening, memory: &'a mut [u32]) -> Book<'a>
     ensures same_opening { result.opening ≡ opening }
     ensures same_reference { result.memory.ghost_name ≡ memory.entry.ghost_name }
 {
@@ -28,7 +28,7 @@ pub fn empty_book<'a>(rt: &impl Abort, opening: Opening, memory: &'a mut [u32]) 
 
 // What is put in of a parcel: no two parcels have the same step, office or amount, and from key 65,536 on the step is
 // wider than a word.
-pub fn entry(key: u32) -> Entry {
+pub(crate) fn entry(key: u32) -> Entry {
     Entry {
         key,
         step: u64::from(key) * 65_537,
@@ -46,11 +46,11 @@ pub fn entry(key: u32) -> Entry {
 }
 
 // Another entry of the same parcel: all but the key differs.
-pub fn changed(key: u32) -> Entry {
+pub(crate) fn changed(key: u32) -> Entry {
     Entry { key, ..entry(!key) }
 }
 
 // The book has this of the parcel.
-pub fn check_has(rt: &impl Abort, book: &Book, entry: Entry) {
+pub(crate) fn check_has(rt: &impl Abort, book: &Book, entry: Entry) {
     assert_eq!(rt; book.find(entry.key), Some(entry));
 }

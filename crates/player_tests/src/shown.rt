@@ -14,7 +14,7 @@ fn whole(heap: Global, report: Report) -> Result<String, AllocError> {
 
 // Checks that the report of each file is the text beside it. (What is given is taken as a report by `into`: where the
 // call gives a report itself, which may hold a `&'static str`, the check makes no proof.)
-pub fn check<R: Into<Report>, F: Fn(Global, &[u8]) -> R>(
+pub(crate) fn check<R: Into<Report>, F: Fn(Global, &[u8]) -> R>(
     rt: &(impl Abort + AllocGlobal),
     report: F,
     files: &[(&[u8], &str)],

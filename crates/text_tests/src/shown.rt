@@ -7,14 +7,17 @@ use std::process::Abort;
 use std::test::Fail;
 
 // Checks that each line is read as the text beside it says.
-pub fn check_lines(rt: &(impl Abort + AllocGlobal), table: &[(&[u8], &str)]) -> Result<(), Fail> {
+pub(crate) fn check_lines(
+    rt: &(impl Abort + AllocGlobal),
+    table: &[(&[u8], &str)],
+) -> Result<(), Fail> {
     for (line, expected) in table {
         assert_eq!(rt; show(rt.alloc(), line)?.as_str(), *expected);
     }
     Ok(())
 }
 
-pub fn show(heap: Global, line: &[u8]) -> Result<String, AllocError> {
+pub(crate) fn show(heap: Global, line: &[u8]) -> Result<String, AllocError> {
     match read_line(heap, line) {
         Ok(read) => ShownLine(read).to_string(heap),
         Err(fault) => fault.to_string(heap),

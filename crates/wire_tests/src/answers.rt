@@ -4,7 +4,7 @@ use parcels::{Answer, Kind, Reason, Refusal, Slip, Step};
 use std::process::Abort;
 use wire::{read_answer, write_answer};
 
-pub fn check_answers(rt: &impl Abort) {
+pub(crate) fn check_answers(rt: &impl Abort) {
     let table: &[(Answer, &[u8])] = &[
         (
             Answer::Refused(Refusal {

@@ -5,7 +5,7 @@ use parcels::{Call, Slip};
 use std::process::Abort;
 use wire::{read_call, write_call};
 
-pub fn check_calls(rt: &impl Abort) {
+pub(crate) fn check_calls(rt: &impl Abort) {
     let table: &[(Call, &[u8])] = &[
         (
             Call::Accept {

@@ -10,7 +10,7 @@ const LENT: u8 = 0xee;
 
 // Checks that these bytes are written into so many lent ones, or that nothing can be written, and that each byte
 // behind what was written stayed.
-pub fn check_written<const LENT_BYTES: usize, F: FnOnce(&mut [u8]) -> Option<usize>>(
+pub(crate) fn check_written<const LENT_BYTES: usize, F: FnOnce(&mut [u8]) -> Option<usize>>(
     rt: &impl Abort,
     wanted: Option<&[u8]>,
     write: F,
@@ -32,7 +32,7 @@ pub fn check_written<const LENT_BYTES: usize, F: FnOnce(&mut [u8]) -> Option<usi
 }
 
 // Where nothing can be written, the answer is None, and each lent byte stays.
-pub fn check_too_few(rt: &impl Abort) {
+pub(crate) fn check_too_few(rt: &impl Abort) {
     assert_eq!(rt; MAX_CALL_BYTES, 25);
     assert_eq!(rt; ANSWER_BYTES, 64);
     let slip = Slip {

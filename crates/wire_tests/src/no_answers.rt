@@ -2,7 +2,7 @@
 use std::process::Abort;
 use wire::read_answer;
 
-pub fn check_no_answers(rt: &impl Abort) {
+pub(crate) fn check_no_answers(rt: &impl Abort) {
     check_none(
         rt,
         &[

@@ -3,7 +3,7 @@ use std::process::Abort;
 use std::test::Fail;
 use wire::{UnreadableCall, read_call};
 
-pub fn check_no_calls(rt: &(impl Abort + AllocGlobal)) -> Result<(), Fail> {
+pub(crate) fn check_no_calls(rt: &(impl Abort + AllocGlobal)) -> Result<(), Fail> {
     check_places(
         rt,
         &[
