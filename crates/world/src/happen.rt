@@ -73,6 +73,13 @@ impl World {
         self.offices.len() as u32
     }
 
+    // What was handed to offices as calls, and what they answered, the oldest first.
+    pub fn journal(&self) -> &[Exchange]
+        ensures { result.now ≡ journal_of self.now }
+    {
+        self.journal.as_slice()
+    }
+
     // How many letters were sent: none, in this stage.
     pub fn letters(&self) -> u32
         ensures { result ≡ 0 }

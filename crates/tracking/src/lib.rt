@@ -1,0 +1,59 @@
+// Where each parcel is, by what was taken everywhere.
+#![tactic(auto)]
+
+ghost use Rattle.std.specs.Prelude.{◌≡◌, ℕ, IfOk};
+ghost use Rattle.std.specs.Ordering.{nat_cmp};
+ghost use Rattle.std.specs.BTreeMap.{get};
+ghost use Rattle.tracking.specs.Steps.{Tells, last_step};
+
+use parcels::{Answer, Call, Kind, Step};
+use std::alloc::{AllocError, Global};
+use std::collections::BTreeMap;
+use world::Exchange;
+
+// A step that an exchange tells of: which parcel took it, of which kind it is, and which office made it.
+#[derive(Clone, Copy)]
+struct Told {
+    key: u32,
+    kind: Kind,
+    office: u32,
+}
+
+// The step that an exchange tells of, if the call was taken and makes one.
+fn step_told(said: Exchange) -> Option<Told>
+    ensures { Tells said result }
+{
+    let (key, kind) = match (said.reading.ok()?, said.answer) {
+        (Call::Accept { .. }, Answer::Number(key)) => (u32::try_from(key).ok()?, Kind::Accepted),
+        (Call::Send { key, .. }, Answer::Given(_)) => (key, Kind::SentOn),
+        (Call::TakeIn { slip }, Answer::Number(_)) => (slip.key, Kind::ComeIn),
+        (Call::HandOut { key }, Answer::Number(_)) => (key, Kind::HandedOut),
+        _ => return None,
+    };
+    Some(Told {
+        key,
+        kind,
+        office: said.at,
+    })
+}
+
+// The last step of each parcel that took one, by the parcel's key.
+pub fn last_steps(heap: Global, journal: &[Exchange]) -> Result<BTreeMap<u32, Step>, AllocError>
+    ensures { IfOk result (λ steps. (key : ℕ) → get nat_cmp steps key ≡ last_step journal.now key) }
+{
+    let mut steps = BTreeMap::new(heap);
+    for said in journal {
+        if let Some(Told { key, kind, office }) = step_told(*said) {
+            let number = steps.get(&key).map_or(0, |last: &Step| last.number + 1);
+            steps.insert(
+                key,
+                Step {
+                    number,
+                    kind,
+                    office,
+                },
+            )?;
+        }
+    }
+    Ok(steps)
+}
