@@ -1,8 +1,15 @@
 -- What is shown of a world file, and how it ends.
-use Rattle.std.specs.Prelude.{◌≡◌, ℕ, true, List, [], ◌∷◌, ◌++◌, Some, None, Ok, Err, string_bytes, codes, decimal, Option, Result}
+use Rattle.std.specs.Prelude.{◌≡◌, ℕ, true, ◌⊎◌, List, [], ◌∷◌, ◌++◌, Some, None, Ok, Err, string_bytes, codes, decimal, Option, Result}
+use Rattle.std.specs.List.{flat_map}
+use Rattle.std.specs.Ordering.{nat_cmp}
+use Rattle.std.specs.BTreeMap.{BTreeMap, IsOrdered, get}
+use Rattle.parcels.specs.declared.Step.{Step}
+use Rattle.answers.specs.Texts.{located_text}
+use Rattle.world.specs.declared.Exchange.{Exchange}
 use Rattle.world.specs.declared.CannotHappen.TheVariants.{NoMemory}
 use Rattle.world.specs.declared.World.{World}
 use Rattle.world.specs.View.{limits_of, journal_of}
+use Rattle.tracking.specs.Steps.{last_step}
 use Rattle.player.specs.Limits.{most_played_letters, small}
 use Rattle.player.specs.declared.trouble.Stop.{Stop}
 use Rattle.player.specs.declared.trouble.Stop.TheVariants.{BudgetSpent, TooManyLetters, Bad}
@@ -39,6 +46,31 @@ Concludes (Err TooManyLetters) line budget bytes r =
 abbrev pub Reports : ℕ → Report → Type 0
 Reports budget r = (ran : Result (Unit {0}) Stop) × (line : ℕ) × (bytes : List ℕ) × Concludes ran line budget bytes r
 
--- the report of some run that showed nothing but, where it stopped, why
-abbrev pub ReportsNothing : ℕ → Report → Type 0
-ReportsNothing budget r = (ran : Result (Unit {0}) Stop) × (line : ℕ) × Concludes ran line budget [] r
+-- where a parcel is, as a line
+abbrev pub place_line : ℕ → Step → List ℕ
+place_line key step = located_text key step ++ (10 ∷ [])
+
+-- the same for some parcels
+abbrev pub place_lines : List (ℕ × Step) → List ℕ
+place_lines es = flat_map (λ e. place_line e.0 e.1) es
+
+-- a line for each parcel that took a step by these exchanges, with its last one, in the order of keys
+abbrev pub ShowsPlaces : List Exchange → List ℕ → Type 0
+ShowsPlaces xs bytes =
+    (steps : BTreeMap ℕ Step) × IsOrdered nat_cmp steps × ((key : ℕ) → get nat_cmp steps key ≡ last_step xs key) × (bytes ≡ place_lines steps.entries)
+
+-- these lines of some world
+abbrev pub ShowsWorld : List ℕ → Type 0
+ShowsWorld bytes = (w : World) × ShowsPlaces (journal_of w) bytes
+
+-- what is shown of a run that ended so: where each parcel is in its world; or nothing, where there is none, or no memory
+-- for these lines
+abbrev pub Locates : Result (Unit {0}) Stop → List ℕ → Type 0
+Locates (Ok _) bytes = (bytes ≡ []) ⊎ ShowsWorld bytes
+Locates (Err (Bad t)) bytes = (bytes ≡ []) ⊎ ShowsWorld bytes
+Locates (Err BudgetSpent) bytes = ShowsWorld bytes
+Locates (Err TooManyLetters) bytes = ShowsWorld bytes
+
+-- the report of some run that showed where each parcel is and, where it stopped, why
+abbrev pub ReportsPlaces : ℕ → Report → Type 0
+ReportsPlaces budget r = (ran : Result (Unit {0}) Stop) × (line : ℕ) × (bytes : List ℕ) × Locates ran bytes × Concludes ran line budget bytes r

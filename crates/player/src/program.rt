@@ -1,7 +1,7 @@
 // The programs: what they do with the files that they are given.
 ghost use Rattle.std.specs.Prelude.{◌≡◌, ℕ, List, codes};
 ghost use Rattle.player.specs.Program.{failure_text};
-ghost use Rattle.player.specs.Report.{Reports, ReportsNothing};
+ghost use Rattle.player.specs.Report.{Reports, ReportsPlaces};
 ghost use Rattle.player.specs.declared.report.Report.{Report};
 ghost use Rattle.player.specs.declared.report.TheConstants.{BUDGET};
 
@@ -95,7 +95,7 @@ pub struct Locate;
 impl Program for Locate {
     ghost called = { codes "locate" };
 
-    ghost reports = { ReportsNothing BUDGET };
+    ghost reports = { ReportsPlaces BUDGET };
 
     fn name(&self) -> &'static str {
         "locate"

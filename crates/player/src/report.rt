@@ -5,19 +5,20 @@ ghost use Rattle.world.specs.declared.CannotHappen.TheVariants.{NoMemory};
 ghost use Rattle.player.specs.declared.trouble.Trouble.TheVariants.{Impossible};
 ghost use Rattle.player.specs.declared.report.End.TheVariants.{Stopped};
 ghost use Rattle.player.specs.Limits.{small};
-ghost use Rattle.player.specs.Report.{Small, stop_line, Concludes, Reports, ReportsNothing};
+ghost use Rattle.player.specs.Report.{Small, stop_line, place_line, ShowsPlaces, Locates, Concludes, Reports, ReportsPlaces};
 ghost use Rattle.player.specs.Texts.{bad_line_text};
 
 use crate::happen::{MAX_PLAYED_LETTERS, Player};
 use crate::split::Lines;
 use crate::trouble::{Stop, Trouble};
-use answers::AnswerText;
+use answers::{AnswerText, Located};
 use lines::{Line, read_line};
-use parcels::Answer;
+use parcels::{Answer, Step};
 use std::alloc::Global;
 use std::fmt;
 use std::fmt::Write;
-use world::{CannotHappen, World};
+use tracking::last_steps;
+use world::{CannotHappen, Exchange, World};
 
 // How many things happen in a world at most.
 pub const BUDGET: u32 = 65_536;
@@ -73,6 +74,14 @@ fn show(answer: Answer, shown: &mut String) -> Result<(), Trouble>
     Ok(())
 }
 
+// Writes where a parcel is as a line.
+fn show_place(key: u32, step: Step, shown: &mut String) -> Result<(), Trouble>
+    ensures { MatchResult result (λ _. string_bytes shown.new ≡ string_bytes shown.old ++ place_line key step) (λ e. e ≡ Impossible NoMemory) }
+{
+    writeln!(shown, "{}", Located { key, step })?;
+    Ok(())
+}
+
 // Why a world stopped, as a line, where no line of its file is to blame: so the file ends. (No function with `show`:
 // each states a text of its own.)
 fn show_stop(what: &str, most: u32, shown: &mut String) -> Result<End, Trouble>
@@ -80,6 +89,18 @@ fn show_stop(what: &str, most: u32, shown: &mut String) -> Result<End, Trouble>
 {
     writeln!(shown, "stopped: more than {most} {what}")?;
     Ok(End::Stopped)
+}
+
+// Where each parcel is by what was handed to offices: a line for each, in the order of keys.
+fn places(heap: Global, journal: &[Exchange]) -> Result<String, Trouble>
+    ensures { MatchResult result (λ shown. ShowsPlaces journal.now (string_bytes shown)) (λ e. e ≡ Impossible NoMemory) }
+{
+    let mut shown = String::new(heap);
+    let steps = last_steps(heap, journal)?;
+    for (key, step) in &steps {
+        show_place(*key, *step, &mut shown)?;
+    }
+    Ok(shown)
 }
 
 // A world file that is played: the lines that are left, how many things may happen, and what is shown so far.
@@ -93,7 +114,8 @@ struct Playing<'a> {
 
 impl<'a> Playing<'a> {
     fn new(heap: Global, file: &'a [u8], budget: u32) -> Playing<'a>
-        ensures { result.budget ≡ budget }
+        ensures budget { result.budget ≡ budget }
+        ensures shown { string_bytes result.shown ≡ [] }
     {
         Playing {
             heap,
@@ -104,9 +126,10 @@ impl<'a> Playing<'a> {
     }
 
     // Opens the world that the first line that is not blank asks for. None where there is no such line.
-    fn open(&mut self) -> Result<Option<World>, Stop>
+    fn open(&mut self) -> Result<Option<World>, Trouble>
         ensures world { IfOk result Small }
         ensures budget { self.new.budget ≡ self.old.budget }
+        ensures shown { self.new.shown ≡ self.old.shown }
     {
         for line in &mut self.lines {
             match read_line(self.heap, line)? {
@@ -117,20 +140,16 @@ impl<'a> Playing<'a> {
                     }
                     return Ok(Some(World::open(self.heap, offices, parcels)?));
                 }
-                _ => return Err(Trouble::NotOpened.into()),
+                _ => return Err(Trouble::NotOpened),
             }
         }
         Ok(None)
     }
 
     // Lets happen what the lines say, and writes the answers.
-    fn run(&mut self) -> Result<(), Stop>
+    fn run(&mut self, player: &mut Player) -> Result<(), Stop>
         ensures { self.new.budget ≡ self.old.budget }
     {
-        let Some(world) = self.open()? else {
-            return Ok(());
-        };
-        let mut player = Player::new(world, self.budget);
         for line in &mut self.lines {
             if let Some(answer) = player.happen(read_line(self.heap, line)?)? {
                 show(answer, &mut self.shown)?;
@@ -138,6 +157,33 @@ impl<'a> Playing<'a> {
             player.count_letters()?;
         }
         Ok(())
+    }
+
+    // Plays the file, and leaves the answers to be shown.
+    fn play(&mut self) -> Result<(), Stop>
+        ensures { self.new.budget ≡ self.old.budget }
+    {
+        let Some(world) = self.open()? else {
+            return Ok(());
+        };
+        self.run(&mut Player::new(world, self.budget))
+    }
+
+    // Plays the file, and leaves to be shown where each parcel is in the end, whether or not all of the file was done.
+    fn locate(&mut self) -> Result<(), Stop>
+        requires { string_bytes self.old.shown ≡ [] }
+        ensures shown { Locates result (string_bytes self.new.shown) }
+        ensures budget { self.new.budget ≡ self.old.budget }
+    {
+        let Some(world) = self.open()? else {
+            return Ok(());
+        };
+        let mut player = Player::new(world, self.budget);
+        let ran = self.run(&mut player);
+        // the answers are not shown
+        self.shown.clear();
+        self.shown = places(self.heap, player.journal())?;
+        ran
     }
 
     // The report of a run that ended so at the line that was taken last.
@@ -165,19 +211,16 @@ pub fn play(heap: Global, file: &[u8], budget: u32) -> Report
     ensures { Reports budget result }
 {
     let mut playing = Playing::new(heap, file, budget);
-    let ran = playing.run();
+    let ran = playing.play();
     playing.conclude(ran)
 }
 
-// Plays a world file and tells of each parcel, in the order of keys, where it is by what was taken
-// everywhere. In this stage no call is taken, so there is none to tell of: only that differs from `play`, and it has a
-// contract of its own.
+// Plays a world file in which at most so many things happen, and tells of each parcel, in the order of keys, where it is
+// by what was taken everywhere.
 pub fn locate(heap: Global, file: &[u8], budget: u32) -> Report
-    ensures { ReportsNothing budget result }
+    ensures { ReportsPlaces budget result }
 {
     let mut playing = Playing::new(heap, file, budget);
-    let ran = playing.run();
-    // the answers are not shown
-    playing.shown.clear();
+    let ran = playing.locate();
     playing.conclude(ran)
 }

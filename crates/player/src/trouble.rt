@@ -27,6 +27,22 @@ pub enum Stop {
     Bad(Trouble),
 }
 
+impl From<CannotHappen> for Trouble {
+    ghost from_gives = { λ e r. r ≡ Impossible e };
+
+    fn from(e: CannotHappen) -> Trouble {
+        Trouble::Impossible(e)
+    }
+}
+
+impl From<Fault> for Trouble {
+    ghost from_gives = { λ e r. r ≡ Unread e };
+
+    fn from(e: Fault) -> Trouble {
+        Trouble::Unread(e)
+    }
+}
+
 impl From<CannotHappen> for Stop {
     ghost from_gives = { λ e r. r ≡ Bad (Impossible e) };
 
