@@ -1,7 +1,5 @@
 -- One exchange more: the last steps that are told of by it and those before.
 use Rattle.std.proofs.Common.{◌≡◌, ℕ, ◌+◌, ◌-◌, ◌<◌, ◌≤◌, Bool, true, false, cond, List, [], ◌∷◌, ◌++◌, length, take, get_or, Some, None, Option, MatchOption, option_map, unwrap_or, slice_get, sym, refl, ap, ◌∙◌, ◌==◌, append_assoc, append-nil, arith}
-use Rattle.std.specs.Borrow.{Bor}
-use Rattle.std.specs.Option.{option_copied}
 use Rattle.std.specs.Ordering.{nat_cmp}
 use Rattle.std.specs.BTreeMap.{BTreeMap, get, is_at, Updates}
 use Rattle.std.proofs.lemmas.Bool.Decides.{nat_tests}
@@ -49,13 +47,13 @@ last_there m ms =
     let found : slice_get (m ∷ ms) (length (m ∷ ms) - 1) ≡ Some (get_or (m ∷ ms) (length (m ∷ ms) - 1) m) = slice_get-get_or (m ∷ ms) (length (m ∷ ms) - 1) m (omega arith) in
     (get_or (m ∷ ms) (length (m ∷ ms) - 1) m, rw found)
 
--- the number of one more, by what is found of the last one, is how many steps there are
-pub next_number : (ms : List Move) (last : Option (Bor Step)) (n : ℕ) → option_copied last ≡ last_of ms → MatchOption last (n ≡ 0) (λ s. n ≡ s.now.number + 1) → n ≡ length ms
+-- the number of one more, by the last one, is how many steps there are
+pub next_number : (ms : List Move) (last : Option Step) (n : ℕ) → last ≡ last_of ms → MatchOption last (n ≡ 0) (λ s. n ≡ s.number + 1) → n ≡ length ms
 next_number [] None n e is = is
 next_number [] (Some s) n e is = cc
 next_number (m ∷ ms) None n e is = let there = last_there m ms in cc (there.1, e)
 next_number (m ∷ ms) (Some s) n e is =
-    let number : s.now.number ≡ length (m ∷ ms) - 1 = ap (λ o. unwrap_or (option_map (λ (z : Step). z.number) o) 0) (e ∙ (last_there m ms).1) in
+    let number : s.number ≡ length (m ∷ ms) - 1 = ap (λ o. unwrap_or (option_map (λ (z : Step). z.number) o) 0) (e ∙ (last_there m ms).1) in
     omega (arith, number, is)
 
 -- which key a look-up in the map finds

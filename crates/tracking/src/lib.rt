@@ -1,7 +1,8 @@
 // Where each parcel is, by what was taken everywhere.
 #![tactic(auto)]
 
-ghost use Rattle.std.specs.Prelude.{◌≡◌, ℕ, IfOk};
+ghost use Rattle.std.specs.Prelude.{◌≡◌, ℕ, ◌+◌, ◌^◌, ◌<◌, IfOk, MatchOption};
+ghost use Rattle.std.specs.Option.{ForSome};
 ghost use Rattle.std.specs.Ordering.{nat_cmp};
 ghost use Rattle.std.specs.BTreeMap.{get};
 ghost use Rattle.tracking.specs.Steps.{Tells, last_step};
@@ -37,6 +38,14 @@ fn step_told(said: Exchange) -> Option<Told>
     })
 }
 
+// The number of a parcel's next step, by its last one.
+fn next_number(last: Option<Step>) -> u64
+    requires { ForSome last (λ step. step.number + 1 < 2 ^ 64) }
+    ensures { MatchOption last (result ≡ 0) (λ step. result ≡ step.number + 1) }
+{
+    last.map_or(0, |step| step.number + 1)
+}
+
 // The last step of each parcel that took one, by the parcel's key.
 pub fn last_steps(heap: Global, journal: &[Exchange]) -> Result<BTreeMap<u32, Step>, AllocError>
     ensures { IfOk result (λ steps. (key : ℕ) → get nat_cmp steps key ≡ last_step journal.now key) }
@@ -44,7 +53,7 @@ pub fn last_steps(heap: Global, journal: &[Exchange]) -> Result<BTreeMap<u32, St
     let mut steps = BTreeMap::new(heap);
     for said in journal {
         if let Some(Told { key, kind, office }) = step_told(*said) {
-            let number = steps.get(&key).map_or(0, |last: &Step| last.number + 1);
+            let number = next_number(steps.get(&key).copied());
             steps.insert(
                 key,
                 Step {
