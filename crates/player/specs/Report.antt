@@ -63,8 +63,8 @@ ShowsPlaces xs bytes =
 abbrev pub ShowsWorld : List ℕ → Type 0
 ShowsWorld bytes = (w : World) × ShowsPlaces (journal_of w) bytes
 
--- what is shown of a run that ended so: where each parcel is in its world; or nothing, where there is none, or no memory
--- for these lines
+-- what is shown of a run that ended so: where each parcel is in some world; or nothing, if it didn't stop, since then there
+-- may be no world, or no memory for these lines
 abbrev pub Locates : Result (Unit {0}) Stop → List ℕ → Type 0
 Locates (Ok _) bytes = (bytes ≡ []) ⊎ ShowsWorld bytes
 Locates (Err (Bad t)) bytes = (bytes ≡ []) ⊎ ShowsWorld bytes
