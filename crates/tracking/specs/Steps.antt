@@ -70,10 +70,11 @@ last_of ms = option_map (λ m. record { number = length ms - 1; kind = m.kind; o
 abbrev pub last_step : List Exchange → ℕ → Option Step
 last_step xs p = last_of (steps_told xs p)
 
--- which step of which parcel an exchange tells of
+-- the step of this parcel, of what an exchange tells of
 abbrev pub told_move : Option Told → ℕ → List Move
 told_move None p = []
 told_move (Some t) p = one_move (t.key == p) t.kind t.office
 
+-- this is all that an exchange tells of, for each parcel
 abbrev pub Tells : Exchange → Option Told → Type 0
 Tells x t = (p : ℕ) → step_in x.at x.reading x.answer p ≡ told_move t p

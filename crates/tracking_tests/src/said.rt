@@ -49,7 +49,7 @@ pub(crate) fn come_in(at: u32, key: u32) -> Exchange {
     said(
         at,
         Call::TakeIn { slip: slip(key) },
-        Answer::Number(key as u64),
+        Answer::Number(u64::from(key)),
     )
 }
 
