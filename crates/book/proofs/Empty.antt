@@ -2,6 +2,8 @@
 use Rattle.std.proofs.Common.{◌≡◌, ℕ, ◌≤◌, [], List, length, map, sym, ap, ◌∙◌, subst, arith}
 use Rattle.std.specs.List.{range_with_len}
 use Rattle.parcels.specs.Book.{accepted}
+use Rattle.parcels.specs.Laws.{StepsFit}
+use Rattle.laws.proofs.Steps.{stay_fit}
 use Rattle.rows.specs.Layout.{words_for, head_at, book_at, entry_at, HeadWritten, LinkWritten}
 use Rattle.rows.proofs.Words.{head_spares, link_spares, spares_on}
 use Rattle.rows.specs.declared.Head.{Head}
@@ -37,11 +39,14 @@ laid_out own parcels m m' enough same clear =
     let empty : book_at m' ≡ [] = ap (λ n. map (entry_at m') (range_with_len 1 n)) no_rows in
     record {
       enough = enough;
-      sound = record {
-        enough = omega (arith, enough, same);
-        few = omega (arith, no_rows);
-        counted = ap (λ (h : Head). h.accepted) clear.head ∙ sym (ap (accepted own) empty);
-        tree = subst (SoundTree (tree_of m')) (sym no_rows) (empty_tree (tree_of m') clear.root);
+      ready = record {
+        sound = record {
+          enough = omega (arith, enough, same);
+          few = omega (arith, no_rows);
+          counted = ap (λ (h : Head). h.accepted) clear.head ∙ sym (ap (accepted own) empty);
+          tree = subst (SoundTree (tree_of m')) (sym no_rows) (empty_tree (tree_of m') clear.root);
+        };
+        steps = subst StepsFit (sym empty) stay_fit.empty;
       };
       empty = empty;
       spare = clear.spare;

@@ -1,7 +1,8 @@
 -- What a sound book has: its rows are the book's entries, each under a key of its own, and the search finds them.
-use Rattle.std.proofs.Common.{◌≡◌, ℕ, ◌+◌, ◌<◌, ◌≤◌, ◌/◌, ◌^◌, true, false, ◌≢◌, List, length, Ok, Err, Result, sym, ap, ◌∙◌, refl, arith, slice_index_or}
+use Rattle.std.proofs.Common.{◌≡◌, ℕ, ◌+◌, ◌<◌, ◌≤◌, ◌/◌, ◌^◌, true, false, ◌≢◌, List, length, Ok, Err, Result, sym, ap, ◌∙◌, subst, refl, arith, slice_index_or}
 use Rattle.std.proofs.lemmas.List.FromFn.{length-map-range_with_len, get_or-map-range_with_len}
-use Rattle.parcels.specs.Book.{has, own, accepted}
+use Rattle.parcels.specs.Book.{has, own, with_own, accepted}
+use Rattle.parcels.specs.Laws.{most_step, StepsFit}
 use Rattle.parcels.specs.declared.Entry.{Entry}
 use Rattle.rows.specs.Layout.{head_at, entry_at, link_at, book_at}
 use Rattle.rows.specs.declared.Link.{Link}
@@ -11,6 +12,7 @@ use Rattle.book.specs.Search.{end_of, RowOf, search_end}
 use Rattle.book.specs.Keeping.{Distinct}
 use Rattle.book.proofs.Search.{hangs_row, whole_way, way_at, way_free}
 use Rattle.laws.proofs.Keys.{accepted_few}
+use Rattle.laws.proofs.Steps.{steps_put}
 use Rattle.book.proofs.Growth.{found_at}
 use Rattle.book.proofs.Lists.{Only, absent, present}
 
@@ -104,3 +106,7 @@ row_of own parcels m key sound small (Ok row) is =
     let (has, own) = found_entry m sound.tree key small row is in
     (is, omega arith, has, own)
 row_of own parcels m key sound small (Err end) is = (is, (leads_nowhere m sound.tree key small end is).0, no_entry m sound.tree key small end is)
+
+-- an entry was put in whose step goes no further than steps go
+pub steps_kept : (m m' : List ℕ) (e : Entry) → book_at m' ≡ with_own (book_at m) e → StepsFit (book_at m) → e.step ≤ most_step e.kind → StepsFit (book_at m')
+steps_kept m m' e is fit low = subst StepsFit (sym is) (steps_put (book_at m) e fit low)

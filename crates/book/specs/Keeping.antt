@@ -6,6 +6,7 @@ use Rattle.parcels.specs.declared.Refusal.{Refusal}
 use Rattle.rows.specs.Layout.{row_words, words_for, head_at, book_at, SameSpare}
 use Rattle.book.specs.Opening.{small_memory}
 use Rattle.book.specs.Sound.{Sound}
+use Rattle.book.specs.Ready.{Ready}
 
 -- memory from some word on stayed as it was
 abbrev pub SameFrom : ℕ → List ℕ → List ℕ → Type 0
@@ -14,7 +15,7 @@ SameFrom from m m' = (i : ℕ) → from ≤ i → slice_index m' i ≡ slice_ind
 -- an empty book was laid out in the memory's first words
 pub record LaidOut (own parcels : ℕ) (m m' : List ℕ) : Type 0 where
   pub enough : words_for parcels ≤ length m
-  pub sound : Sound own parcels m'
+  pub ready : Ready own parcels m'
   pub empty : book_at m' ≡ []
   pub spare : SameSpare m m'
   pub rest : SameFrom row_words m m'

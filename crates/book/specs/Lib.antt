@@ -3,6 +3,7 @@ pub mod Opened
 pub mod Tree
 pub mod Search
 pub mod Sound
+pub mod Ready
 pub mod Keeping
 pub mod Keys
 pub mod Adding

@@ -3,9 +3,12 @@
 
 ghost use Rattle.std.specs.Prelude.{◌≡◌, ◌≤◌, true, length, MatchOption, is_ok, IsErr};
 ghost use Rattle.parcels.specs.Book.{has_room, accepted};
+ghost use Rattle.parcels.specs.Laws.{most_step, StepsFit};
 ghost use Rattle.parcels.specs.Calls.{new_key};
+ghost use Rattle.rows.specs.Layout.{book_at};
 ghost use Rattle.book.specs.Search.{RowOf};
 ghost use Rattle.book.specs.Sound.{Sound};
+ghost use Rattle.book.specs.Ready.{Ready};
 ghost use Rattle.book.specs.Keys.{next_key, NewKey};
 ghost use Rattle.book.specs.Keeping.{looked_up, Distinct, can_put, put_in, SameElsewhere};
 
@@ -23,25 +26,34 @@ mod tree;
 #[derive(Clone, Copy, Debug, PartialEq, Eq)]
 pub struct Full;
 
-// The memory, and what the office was opened with. The invariant: the memory is sound.
+// The memory, and what the office was opened with. The invariant: the memory is sound, and no step in the book goes further
+// than steps go.
 #[derive(Drop)]
 pub struct Book<'a> {
     memory: &'a mut [u32],
     opening: Opening,
     ghost sound: { Sound opening.own opening.parcels memory.now },
+    ghost steps: { StepsFit (book_at memory.now) },
 }
 
 impl<'a> Book<'a> {
     ghost use Rattle.book.specs.View.{book_in};
 
-    // A book over memory that was laid out, or that another such book left: either is sound.
+    // A book over memory that was laid out, or that another such book left: either is ready.
     pub fn over(opening: Opening, memory: &'a mut [u32]) -> Book<'a>
-        requires { Sound opening.own opening.parcels memory.old }
+        requires { Ready opening.own opening.parcels memory.old }
         ensures same_opening { result.opening ≡ opening }
         ensures same { result.memory.now ≡ memory.old }
         ensures same_reference { result.memory.ghost_name ≡ memory.entry.ghost_name }
     {
         Book { memory, opening }
+    }
+
+    // What the office was opened with.
+    pub fn opening(&self) -> Opening
+        ensures { result ≡ self.now.opening }
+    {
+        self.opening
     }
 
     // How many parcels it has.
@@ -107,8 +119,10 @@ impl<'a> Book<'a> {
     }
 
     // Puts in an entry: in place of the one with its key, or, where there is none and room for one more, behind the
-    // others.
+    // others. Two words hold any step; but that none goes further than steps go is kept here, for whoever makes the next.
+    #[tactic(auto, using(crate::proofs::Kept::steps_kept))]
     pub fn put(&mut self, entry: Entry) -> Result<(), Full>
+        requires fits { entry.step ≤ most_step entry.kind }
         ensures value { is_ok result ≡ can_put self.old.opening.parcels (book_in self.old) entry }
         ensures after { book_in self.new ≡ put_in self.old.opening.parcels (book_in self.old) entry }
         ensures same { IsErr result → self.new.memory.now ≡ self.old.memory.now }

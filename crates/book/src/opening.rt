@@ -1,5 +1,5 @@
 // What an office is opened with.
-ghost use Rattle.std.specs.Prelude.{◌≡◌, ◌+◌, ◌*◌, ◌≤◌, true};
+ghost use Rattle.std.specs.Prelude.{◌≡◌, ◌+◌, ◌*◌, ◌≤◌, true, nat_lt};
 ghost use Rattle.parcels.specs.Numbers.{words_a_parcel, words_more};
 ghost use Rattle.rows.specs.Layout.{words_for};
 ghost use Rattle.book.specs.Opening.{in_range};
@@ -50,6 +50,20 @@ impl Opening {
         })
     }
 
+    // The number of the office that is opened.
+    pub fn own(&self) -> u32
+        ensures { result ≡ self.now.own }
+    {
+        self.own
+    }
+
+    // Whether an office is there.
+    pub fn has_office(&self, office: u32) -> bool
+        ensures { result ≡ nat_lt office self.now.offices }
+    {
+        office < self.offices
+    }
+
     // How many words of memory it asks for.
     pub fn words(&self) -> usize
         ensures value { result ≡ words_for self.now.parcels }
@@ -63,10 +77,7 @@ impl Opening {
         ensures { LaysOut self.now.own self.now.parcels memory.old memory.new result }
     {
         if memory.len() < self.words() {
-            return Err(Refusal {
-                reason: Reason::BadOpening,
-                place: 0,
-            });
+            return Err(Reason::BadOpening.into());
         }
         clear(memory);
         Ok(())

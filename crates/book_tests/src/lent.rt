@@ -1,5 +1,6 @@
 // A book in lent memory, and what the tests put into it.
-ghost use Rattle.std.specs.Prelude.{◌≡◌};
+ghost use Rattle.std.specs.Prelude.{◌≡◌, ◌≤◌};
+ghost use Rattle.parcels.specs.Laws.{most_step};
 
 use book::Book;
 use book::opening::Opening;
@@ -26,18 +27,21 @@ pub(crate) fn empty_book<'a>(rt: &impl Abort, opening: Opening, memory: &'a mut 
     Book::over(opening, memory)
 }
 
-// What is put in of a parcel: no two parcels have the same step, office or amount, and from key 65,536 on the step is
-// wider than a word.
-pub(crate) fn entry(key: u32) -> Entry {
+// What is put in of a parcel: no two parcels have the same office or amount, nor, but for those that were accepted, the same
+// step. That of the last key is as large as a step can be, and wider than a word.
+pub(crate) fn entry(key: u32) -> Entry
+    ensures { result.step ≤ most_step result.kind }
+{
+    let (kind, step) = match key % 4 {
+        0 => (Kind::Accepted, 0),
+        1 => (Kind::SentOn, u64::from(key) + 2),
+        2 => (Kind::ComeIn, u64::from(key)),
+        _ => (Kind::HandedOut, u64::from(key) + 2),
+    };
     Entry {
         key,
-        step: u64::from(key) * 65_537,
-        kind: match key % 4 {
-            0 => Kind::Accepted,
-            1 => Kind::SentOn,
-            2 => Kind::ComeIn,
-            _ => Kind::HandedOut,
-        },
+        step,
+        kind,
         to: !key,
         dest: key.wrapping_mul(3),
         amount: key.wrapping_mul(5),
@@ -46,7 +50,9 @@ pub(crate) fn entry(key: u32) -> Entry {
 }
 
 // Another entry of the same parcel: all but the key differs.
-pub(crate) fn changed(key: u32) -> Entry {
+pub(crate) fn changed(key: u32) -> Entry
+    ensures { result.step ≤ most_step result.kind }
+{
     Entry { key, ..entry(!key) }
 }
 

@@ -1,5 +1,6 @@
 -- Laws of looking up and putting in. Each goes down the book, and by cases on whether an entry has the key.
-use Rattle.std.proofs.Common.{◌≡◌, ℕ, suc, ◌+◌, Bool, true, false, ◌||◌, eqb, [], ◌∷◌, length, refl, ap, ◌∙◌, arith, eq-eqb, eqb-true}
+use Rattle.std.proofs.Common.{◌≡◌, ℕ, suc, ◌+◌, Bool, true, false, ◌||◌, eqb, [], ◌∷◌, length, refl, sym, ap, ◌∙◌, subst, inl, inr, arith, eq-eqb, eqb-true}
+use Rattle.std.proofs.lemmas.Bool.{cases_Bool, or_left, or_right}
 use borrow.Author.Tests.{clash}
 use Rattle.parcels.specs.Book.{pick, Book, has, own, with_own}
 use Rattle.parcels.specs.Laws.{BookLaws}
@@ -82,6 +83,22 @@ unfolding with_own
 put_twice [] d e s = rw (eq-eqb d.key e.key s)
 put_twice (x ∷ xs) d e s =
     rw (ap (λ k. eqb x.key k) s) (put_twice_at x d e xs (eqb x.key e.key) refl (ap (λ k. eqb x.key k) s) s (put_twice xs d e s))
+
+-- what was put in is there
+pub has_new : (b : Book) (e : Entry) → has (with_own b e) e.key ≡ true
+has_new b e = has_put b e e.key ∙ or_left (eqb e.key e.key) (has b e.key) (same e.key)
+
+-- what a book has stays in it, whatever is put in
+pub still_has : (b : Book) (e : Entry) (key : ℕ) → has b key ≡ true → has (with_own b e) key ≡ true
+still_has b e key there = has_put b e key ∙ or_right (eqb e.key key) (has b key) there
+
+-- an entry is put in: what is so of it, and of what was there for other parcels, is so of what is there now
+pub put_is : (b : Book) (e : Entry) (key : ℕ) (P : Entry → Type 0) → (e.key ≡ key → P e) → (eqb e.key key ≡ false → P (own b key)) → P (own (with_own b e) key)
+put_is b e key P new old =
+    elim (cases_Bool (eqb e.key key)) [
+      | inl same ↦ let is : e.key ≡ key = eqb-true e.key key same in subst (λ k. P (own (with_own b e) k)) is (subst P (sym (own_put b e)) (new is))
+      | inr other ↦ subst P (sym (own_other b e key other)) (old other)
+    ]
 
 pub laws : BookLaws
 laws =

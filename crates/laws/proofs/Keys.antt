@@ -1,18 +1,15 @@
--- Keys are given out once. A call does one of three things with a book, and each keeps the keys and the book in order.
-use Rattle.std.proofs.Common.{◌≡◌, ℕ, zero, suc, ◌+◌, ◌-◌, ◌*◌, ◌%◌, ◌<◌, ◌≤◌, Bool, true, false, not, ◌&&◌, ◌||◌, eqb, eqb-true, inl, inr, List, [], ◌∷◌, ◌++◌, length, Some, None, Option, slice_index, refl, sym, ap, ◌∙◌, eq-eqb, arith}
-use Rattle.std.proofs.lemmas.Bool.{false_from_ne_true, cases_Bool, and_parts, or_left, or_right}
+-- Keys are given out once: each thing that a call does with a book keeps the keys and the book in order.
+use Rattle.std.proofs.Common.{◌≡◌, ℕ, zero, suc, ◌+◌, ◌-◌, ◌*◌, ◌%◌, ◌<◌, ◌≤◌, Bool, true, false, not, ◌||◌, eqb, eqb-true, inl, inr, List, [], ◌∷◌, ◌++◌, length, slice_index, refl, sym, ap, ◌∙◌, subst, arith}
+use Rattle.std.proofs.lemmas.Bool.{false_from_ne_true, cases_Bool}
 use Rattle.std.proofs.lemmas.Bool.Decides.{nat_tests}
-use Rattle.parcels.specs.Numbers.{call_number, most_parcels, keys_of_an_office}
+use Rattle.parcels.specs.Numbers.{most_parcels, keys_of_an_office}
 use Rattle.parcels.specs.Book.{pick, origin, Book, has, own, with_own, has_room, accepted}
-use Rattle.parcels.specs.Calls.{Limits, good_fields, checked, after, changed, unless, told, new_key, refusal, accepted_entry, sent_entry, came_entry, handed_entry, paid_entry}
-use Rattle.parcels.specs.Laws.{GivenInOrder, number_in, keys_given, brings_known_key, ByCalls, opened, called, KeysOnce, GivenOnce}
+use Rattle.parcels.specs.Calls.{Limits, new_key, accepted_entry, came_entry, paid_entry}
+use Rattle.parcels.specs.Laws.{GivenInOrder, brings_known_key, ByCalls, opened, called, KeysOnce, GivenOnce}
 use Rattle.parcels.specs.declared.Entry.{Entry}
 use Rattle.parcels.specs.declared.Call.{Call}
-use Rattle.parcels.specs.declared.Call.TheVariants.{Accept, Send, SlipAgain, TakeIn, HandOut, Pay, WhereIs, Here, Sums}
-use Rattle.parcels.specs.declared.Reason.{Reason}
-use Rattle.parcels.specs.declared.Reason.TheVariants.{OutOfRange, WrongSlip, OverLimit}
-use Rattle.parcels.specs.declared.Answer.TheVariants.{Refused, Number}
-use Rattle.laws.proofs.Books.{has_put, own_key, put_length}
+use Rattle.laws.proofs.Books.{has_put, has_new, still_has, put_length}
+use Rattle.laws.proofs.Did.{Did, nothing, accepts, comes, leaves, pays, did}
 
 -- how many were accepted, after an entry was put in
 accepted_put_at : (o : ℕ) (x e : Entry) (xs : Book) (t u : Bool) → eqb x.key e.key ≡ t → accepted o (with_own xs e) ≡ pick u (accepted o xs) (accepted o xs + pick (eqb (origin e.key) o) 1 0) →
@@ -48,13 +45,6 @@ new_unused o key b is small order =
     let (ours, rest) = new_parts o key b is small in
     false_from_ne_true (has b key) (λ there. omega (arith, order key there ours, rest))
 
--- what a call does with a book: nothing; an entry is put in with a key that the book has, or that another office gave
--- out; or one is put in with a new key, which is given out
-data Did (l : Limits) (o : ℕ) (b : Book) : List ℕ → Book → Type 0 where
-  nothing : Did l o b [] b
-  known : (e : Entry) → (has b e.key || not (eqb (origin e.key) o)) ≡ true → (has b e.key || has_room l.parcels b) ≡ true → Did l o b [] (with_own b e)
-  fresh : (e : Entry) → e.key ≡ new_key o b → has_room l.parcels b ≡ true → Did l o b (new_key o b ∷ []) (with_own b e)
-
 -- the keys are this office's first ones, the last first; each of its own parcels is among these, and there is room for all
 record Ordered (l : Limits) (o : ℕ) (keys : List ℕ) (b : Book) : Type 0 where
   counted : length keys ≡ accepted o b
@@ -62,10 +52,6 @@ record Ordered (l : Limits) (o : ℕ) (keys : List ℕ) (b : Book) : Type 0 wher
   kept : (i : ℕ) → i < length keys → has b (slice_index keys i) ≡ true
   in_order : GivenInOrder o b
   few : length b ≤ l.parcels
-
--- what a book has stays in it
-still_has : (b : Book) (e : Entry) (key : ℕ) → has b key ≡ true → has (with_own b e) key ≡ true
-still_has b e key there = has_put b e key ∙ or_right (eqb e.key key) (has b key) there
 
 -- an entry is put in: as many were accepted as before or more, and its key, where it is new and the office's, is below that
 put_in_order : (o : ℕ) (b : Book) (e : Entry) → accepted o b ≤ accepted o (with_own b e) → (has b e.key ≡ false → origin e.key ≡ o → e.key % keys_of_an_office < accepted o (with_own b e)) →
@@ -99,7 +85,7 @@ first_more keys key from is each (suc i) h = omega (arith, each i (omega arith))
 
 first_kept : (o : ℕ) (keys : List ℕ) (b : Book) (e : Entry) → e.key ≡ new_key o b → ((i : ℕ) → i < length keys → has b (slice_index keys i) ≡ true) →
     (i : ℕ) → i < length (new_key o b ∷ keys) → has (with_own b e) (slice_index (new_key o b ∷ keys) i) ≡ true
-first_kept o keys b e is kept zero h = has_put b e (new_key o b) ∙ or_left (eqb e.key (new_key o b)) (has b (new_key o b)) (eq-eqb e.key (new_key o b) is)
+first_kept o keys b e is kept zero h = subst (λ key. has (with_own b e) key ≡ true) is (has_new b e)
 first_kept o keys b e is kept (suc i) h = still_has b e (slice_index keys i) (kept i (omega arith))
 
 -- an entry with a new key is put in
@@ -118,66 +104,18 @@ fresh_ordered l o keys b e is room limit x =
       few = grind (arith, nat_tests, put_length b e);
     }
 
--- each of the three keeps the order
-keeps : (l : Limits) (o : ℕ) (keys : List ℕ) (b : Book) {more : List ℕ} {b' : Book} → Did l o b more b' → l.parcels ≤ most_parcels → Ordered l o keys b → Ordered l o (more ++ keys) b'
-keeps l o keys b nothing limit x = x
-keeps l o keys b (known e is room) limit x = known_ordered l o keys b e is room x
-keeps l o keys b (fresh e is room) limit x = fresh_ordered l o keys b e is room limit x
-
--- where a check turns nothing away, it holds, and so do those behind it
-passed : (t : Bool) (rest : Option Reason) (r : Reason) → pick t rest (Some r) ≡ None → (t ≡ true) × (rest ≡ None)
-passed true rest r h = (refl, h)
-passed false rest r h = absurd (cc)
-
--- a call other than accepting, by what it does where it is taken
-taken_at : (l : Limits) (o : ℕ) (b b' : Book) (good : Bool) (t : Option Reason) → (t ≡ None → Did l o b [] b') → Did l o b [] (unless (pick good t (Some OutOfRange)) b' (λ r. b))
-taken_at l o b b' true None f = f refl
-taken_at l o b b' true (Some r) f = nothing
-taken_at l o b b' false t f = nothing
-
-taken : (l : Limits) (o : ℕ) (b : Book) (c : Call) → (checked l o b c ≡ None → Did l o b [] (changed o b c)) → Did l o b [] (after l o b c)
-taken l o b c f = taken_at l o b (changed o b c) (l.can (call_number c) && good_fields l o c) (checked l o b c) f
-
--- a parcel that the book has gets another entry
-changes : (l : Limits) (o : ℕ) (b : Book) (key : ℕ) (e : Entry) (t : Bool) (rest : Option Reason) (r : Reason) → (has b key ≡ true → e.key ≡ key) →
-    pick (has b key && t) rest (Some r) ≡ None → Did l o b [] (with_own b e)
-changes l o b key e t rest r is h =
-    let there : has b key ≡ true = (and_parts (has b key) t (passed (has b key && t) rest r h).0).0 in
-    let old : has b e.key ≡ true = rw (is there) there in
-    known e (rw old) (rw old)
-
--- a parcel that comes in gets an entry
-comes : (l : Limits) (o : ℕ) (b : Book) (e : Entry) (t : Bool) → (has b e.key || not (eqb (origin e.key) o)) ≡ true →
-    pick t (pick (has b e.key || has_room l.parcels b) None (Some OverLimit)) (Some WrongSlip) ≡ None → Did l o b [] (with_own b e)
-comes l o b e t k h =
-    let room : Bool = has b e.key || has_room l.parcels b in
-    known e k (passed room None OverLimit (passed t (pick room None (Some OverLimit)) WrongSlip h).1).0
-
--- a parcel is accepted, where the stage, the fields and the room are good
-accepts : (l : Limits) (o : ℕ) (b : Book) (dest amount : ℕ) (good room : Bool) → has_room l.parcels b ≡ room →
-    let t : Option Reason = pick good (pick room None (Some OverLimit)) (Some OutOfRange) in
-    Did l o b (number_in (unless t (Number (new_key o b)) (λ r. Refused (refusal (Accept dest amount) r)))) (unless t (with_own b (accepted_entry o (new_key o b) dest amount)) (λ r. b))
-accepts l o b dest amount true true h = fresh (accepted_entry o (new_key o b) dest amount) refl h
-accepts l o b dest amount true false h = nothing
-accepts l o b dest amount false room h = nothing
-
--- each call does one of the three
-did : (l : Limits) (o : ℕ) (b : Book) (c : Call) → brings_known_key o b c ≡ true → Did l o b (keys_given l o b c) (after l o b c)
-unfolding checked changed told
-did l o b (Accept dest amount) k = accepts l o b dest amount (l.can 0 && good_fields l o (Accept dest amount)) (has_room l.parcels b) refl
-did l o b (Send key to) k = taken l o b (Send key to) (changes l o b key (sent_entry (own b key) to) _ _ _ (own_key b key))
-did l o b (SlipAgain key) k = taken l o b (SlipAgain key) (λ h. nothing)
-did l o b (TakeIn s) k = taken l o b (TakeIn s) (comes l o b (came_entry o s (has b s.key && (own b s.key).paid)) _ k)
-did l o b (HandOut key) k = taken l o b (HandOut key) (changes l o b key (handed_entry o key (own b key)) _ _ _ (λ there. refl))
-did l o b (Pay key) k = taken l o b (Pay key) (changes l o b key (paid_entry key (own b key)) _ _ _ (λ there. refl))
-did l o b (WhereIs key) k = taken l o b (WhereIs key) (λ h. nothing)
-did l o b (Here from) k = taken l o b (Here from) (λ h. nothing)
-did l o b Sums k = taken l o b Sums (λ h. nothing)
+-- each thing that a call does keeps the order, where a slip brings no key that the office has yet to give out
+keeps : (l : Limits) (o : ℕ) (keys : List ℕ) (b : Book) {c : Call} {more : List ℕ} {b' : Book} → Did l o b c more b' → brings_known_key o b c ≡ true → l.parcels ≤ most_parcels → Ordered l o keys b → Ordered l o (more ++ keys) b'
+keeps l o keys b nothing k limit x = x
+keeps l o keys b (accepts dest amount room) k limit x = fresh_ordered l o keys b (accepted_entry o (new_key o b) dest amount) refl room limit x
+keeps l o keys b (comes s p works room) k limit x = known_ordered l o keys b (came_entry o s p) k room x
+keeps l o keys b (leaves key e there here is step most) k limit x = let old : has b e.key ≡ true = rw is there in known_ordered l o keys b e (rw old) (rw old) x
+keeps l o keys b (pays key there) k limit x = known_ordered l o keys b (paid_entry key (own b key)) (rw there) (rw there) x
 
 ordered : {l : Limits} {o : ℕ} {keys : List ℕ} {b : Book} → ByCalls l o keys b → l.parcels ≤ most_parcels → Ordered l o keys b
 unfolding has accepted
 ordered {l} {o} opened limit = record { counted = refl; each = λ i h. absurd (omega arith); kept = λ i h. absurd (omega arith); in_order = λ key there ours. absurd (cc); few = omega arith }
-ordered {l} {o} (called {keys} {b} c x k) limit = keeps l o keys b (did l o b c k) limit (ordered x limit)
+ordered {l} {o} (called {keys} {b} c x k) limit = keeps l o keys b (did l o b c) k limit (ordered x limit)
 
 given_once : (l : Limits) (o : ℕ) (keys : List ℕ) (b : Book) → ByCalls l o keys b → l.parcels ≤ most_parcels → GivenOnce l o keys b
 given_once l o keys b x limit =

@@ -1,23 +1,22 @@
--- Opening an office, and the stage that its calls are in.
-use Rattle.std.specs.Prelude.{◌≡◌, ℕ, Ok, Err, Result}
-use Rattle.parcels.specs.Calls.{Limits, nothing}
+-- Opening an office.
+use Rattle.std.specs.Prelude.{◌≡◌, ℕ, ◌<◌, true, false, ◌⊎◌, List, length, Ok, Err, Result}
 use Rattle.parcels.specs.declared.Refusal.{Refusal}
+use Rattle.rows.specs.Layout.{words_for}
+use Rattle.book.specs.Opening.{in_range, bad_limits, small_memory}
 use Rattle.book.specs.Opened.{Opens as OpensWith}
-use Rattle.office.specs.declared.Office.{Office}
+use Rattle.book.specs.Keeping.{LaidOut}
+use Rattle.book.specs.declared.opening.Opening.{Opening}
 
--- an office that was opened with these limits
-abbrev pub IsOpened : Office → ℕ → ℕ → ℕ → Type 0
-IsOpened x offices own parcels = (x.opening.offices ≡ offices) × (x.opening.own ≡ own) × (x.opening.parcels ≡ parcels)
+-- an office was opened over memory: what it keeps, and its empty book in the memory's first words
+pub record Opened (offices own parcels : ℕ) (m m' : List ℕ) (x : Opening) : Type 0 where
+  pub limits : OpensWith offices own parcels (Ok x)
+  pub laid_out : LaidOut own parcels m m'
 
--- an office opens where its limits are in range, and keeps them; else it is refused
-abbrev pub Opens : ℕ → ℕ → ℕ → Result Office Refusal → Type 0
-Opens offices own parcels (Ok x) = OpensWith offices own parcels (Ok x.opening)
-Opens offices own parcels (Err e) = OpensWith offices own parcels (Err e)
-
--- the stage of the office: nothing can be done yet
-abbrev pub stage_limits : ℕ → ℕ → Limits
-stage_limits offices parcels = record { can = nothing; offices = offices; parcels = parcels }
-
--- the same of an office
-abbrev pub office_limits : Office → Limits
-office_limits x = stage_limits x.opening.offices x.opening.parcels
+-- an office opens where its limits are in range and the memory is as large as they ask for; else it is refused, by the first
+-- of these that is wrong, and the memory stays as it was
+abbrev pub Opens : ℕ → ℕ → ℕ → List ℕ → List ℕ → Result Opening Refusal → Type 0
+Opens offices own parcels m m' (Ok x) = Opened offices own parcels m m' x
+Opens offices own parcels m m' (Err e) =
+    (m' ≡ m)
+    × (((in_range offices own parcels ≡ false) × (e ≡ bad_limits))
+    ⊎ ((in_range offices own parcels ≡ true) × (length m < words_for parcels) × (e ≡ small_memory)))

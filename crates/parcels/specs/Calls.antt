@@ -11,17 +11,17 @@ use Rattle.parcels.specs.declared.Reason.{Reason}
 use Rattle.parcels.specs.declared.Reason.TheVariants.{Unreadable, OutOfRange, BadOpening, NotHere, WrongSlip, OtherOffice, NothingToPay, PaidAlready, OverLimit}
 use Rattle.parcels.specs.declared.Refusal.{Refusal}
 use Rattle.parcels.specs.declared.Answer.{Answer}
-use Rattle.parcels.specs.declared.Answer.TheVariants.{Refused, Number, Given, NothingHeard, Two}
+use Rattle.parcels.specs.declared.Answer.TheVariants.{Refused, Number, Given, At, NothingHeard, Two}
 
 -- a stage of the post: the numbers of the calls that can be done in it
 abbrev pub Stage : Type 0
 Stage = ℕ → Bool
 
--- nothing can be done yet
-abbrev pub nothing : Stage
-nothing k = false
+-- parcels move: accepting, sending on, a slip once more, taking in, handing out
+abbrev pub moving : Stage
+moving k = nat_lt k 5
 
--- the first stage: all but paying and where a parcel is
+-- the first stage, once it is whole: all but paying and where a parcel is
 abbrev pub thin : Stage
 thin k = nat_lt k 5 || (k == 7 || k == 8)
 
@@ -165,6 +165,15 @@ answered l o b c = unless (turned l o b c) (told o b c) (λ r. Refused (refusal 
 -- what is answered to bytes that are no call: the place is that of the first byte that doesn't fit
 abbrev pub unreadable : ℕ → Answer
 unreadable place = Refused (record { reason = Unreadable; place = place })
+
+-- an answer other than a refusal
+abbrev pub not_refused : Answer → Bool
+not_refused (Refused refusal) = false
+not_refused (Number n) = true
+not_refused (Given slip) = true
+not_refused (At step) = true
+not_refused NothingHeard = true
+not_refused (Two m n) = true
 
 -- the calls whose answer also takes news from other offices
 abbrev pub needs_news : Call → Bool

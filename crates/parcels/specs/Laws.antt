@@ -1,13 +1,17 @@
--- Laws of books and of calls on them: BookLaws, SlipOnce, TurnedAway and KeysOnce, each the contract of a function of the
--- crate laws. The other definitions serve the last.
-use Rattle.std.specs.Prelude.{◌≡◌, ℕ, ◌+◌, ◌%◌, ◌<◌, ◌≤◌, Bool, true, false, not, ◌||◌, List, [], ◌∷◌, ◌++◌, length, slice_index, is_some, None, ◌==◌}
-use Rattle.parcels.specs.Numbers.{most_parcels, keys_of_an_office}
+-- Laws of books and of calls on them: BookLaws, SlipOnce, TurnedAway, StepsStayFit and KeysOnce, each the contract of a
+-- function of the crate laws. The other definitions serve the last two, and some also the book's invariant and what is true
+-- of all offices.
+use Rattle.std.specs.Prelude.{◌≡◌, ℕ, ◌+◌, ◌%◌, ◌<◌, ◌≤◌, Bool, true, false, not, ◌||◌, List, [], ◌∷◌, ◌++◌, length, slice_index, is_some, Some, None, ◌==◌}
+use Rattle.parcels.specs.Numbers.{four_bytes, all_below, call_values, most_parcels, keys_of_an_office}
 use Rattle.parcels.specs.Book.{pick, origin, Book, has, own, with_own, accepted}
 use Rattle.parcels.specs.Calls.{Limits, turned, after, answered}
+use Rattle.parcels.specs.declared.Kind.{Kind}
+use Rattle.parcels.specs.declared.Kind.TheVariants.{Accepted, SentOn, ComeIn, HandedOut}
 use Rattle.parcels.specs.declared.Slip.{Slip}
 use Rattle.parcels.specs.declared.Entry.{Entry}
 use Rattle.parcels.specs.declared.Call.{Call}
 use Rattle.parcels.specs.declared.Call.TheVariants.{Accept, Send, SlipAgain, TakeIn, HandOut, Pay, WhereIs, Here, Sums}
+use Rattle.parcels.specs.declared.Reason.TheVariants.{WrongSlip}
 use Rattle.parcels.specs.declared.Answer.{Answer}
 use Rattle.parcels.specs.declared.Answer.TheVariants.{Refused, Number, Given, At, NothingHeard, Two}
 
@@ -21,13 +25,31 @@ pub record BookLaws : Type 0 where
   pub put_length : (b : Book) (e : Entry) → length (with_own b e) ≡ pick (has b e.key) (length b) (length b + 1)
   pub put_twice : (b : Book) (d e : Entry) → d.key ≡ e.key → with_own (with_own b d) e ≡ with_own b e
 
--- a slip works once: by the book that taking a parcel in leaves, the same slip is turned away
+-- a slip works once: by the book that taking a parcel in leaves, the same slip is turned away as one that doesn't work
 abbrev pub SlipOnce : Type 0
-SlipOnce = (l : Limits) (o : ℕ) (b : Book) (s : Slip) → turned l o b (TakeIn s) ≡ None → is_some (turned l o (after l o b (TakeIn s)) (TakeIn s)) ≡ true
+SlipOnce = (l : Limits) (o : ℕ) (b : Book) (s : Slip) → turned l o b (TakeIn s) ≡ None → turned l o (after l o b (TakeIn s)) (TakeIn s) ≡ Some WrongSlip
 
 -- a call that is turned away changes no book
 abbrev pub TurnedAway : Type 0
 TurnedAway = (l : Limits) (o : ℕ) (b : Book) (c : Call) → is_some (turned l o b c) ≡ true → after l o b c ≡ b
+
+-- How far the step of an entry goes, by its kind. A slip that a call carries has a step of four bytes; taking in makes
+-- the step after it, and sending on or handing out one more. So two words hold each step, and no call has to be turned
+-- away for a step that is too large.
+abbrev pub most_step : Kind → ℕ
+most_step Accepted = 0
+most_step SentOn = four_bytes + 1
+most_step ComeIn = four_bytes
+most_step HandedOut = four_bytes + 1
+
+-- no step in a book goes further
+abbrev pub StepsFit : Book → Type 0
+StepsFit b = (key : ℕ) → has b key ≡ true → (own b key).step ≤ most_step (own b key).kind
+
+-- none ever does: an empty book has no step, and a call whose values four bytes hold leaves none that goes further
+pub record StepsStayFit : Type 0 where
+  pub empty : StepsFit []
+  pub call : (l : Limits) (o : ℕ) (b : Book) (c : Call) → all_below four_bytes (call_values c) ≡ true → StepsFit b → StepsFit (after l o b c)
 
 -- each of the office's own keys in its book is among its first ones, as many as the book has of them: those are the keys
 -- that it gave out
@@ -43,17 +65,21 @@ number_in (At step) = []
 number_in NothingHeard = []
 number_in (Two m n) = []
 
--- the keys that an office gives out by a call: the number that it answers where it accepts a parcel
+-- the key that is given out by an answer to a call: the number that is answered where a parcel is accepted
+abbrev pub key_told : Call → Answer → List ℕ
+key_told (Accept dest amount) a = number_in a
+key_told (Send key to) a = []
+key_told (SlipAgain key) a = []
+key_told (TakeIn s) a = []
+key_told (HandOut key) a = []
+key_told (Pay key) a = []
+key_told (WhereIs key) a = []
+key_told (Here from) a = []
+key_told Sums a = []
+
+-- the keys that an office gives out by a call
 abbrev pub keys_given : Limits → ℕ → Book → Call → List ℕ
-keys_given l o b (Accept dest amount) = number_in (answered l o b (Accept dest amount))
-keys_given l o b (Send key to) = []
-keys_given l o b (SlipAgain key) = []
-keys_given l o b (TakeIn s) = []
-keys_given l o b (HandOut key) = []
-keys_given l o b (Pay key) = []
-keys_given l o b (WhereIs key) = []
-keys_given l o b (Here from) = []
-keys_given l o b Sums = []
+keys_given l o b c = key_told c (answered l o b c)
 
 -- where a call brings a slip, the office has its parcel, or another office accepted it: the key is none that this office
 -- has yet to give out

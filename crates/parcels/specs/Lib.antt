@@ -2,3 +2,4 @@ pub mod Numbers
 pub mod Book
 pub mod Calls
 pub mod Laws
+pub mod Example

@@ -172,6 +172,15 @@ impl TryFrom<u64> for Reason {
     }
 }
 
+// Most reasons are about a call as a whole, which is place 0.
+impl From<Reason> for Refusal {
+    ghost from_gives = { λ reason refusal. (refusal.reason ≡ reason) × (refusal.place ≡ 0) };
+
+    fn from(reason: Reason) -> Refusal {
+        Refusal { reason, place: 0 }
+    }
+}
+
 impl Answer {
     // The first of its bytes: no conversion either.
     pub fn number(self) -> u8

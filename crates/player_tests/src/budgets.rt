@@ -19,19 +19,19 @@ fn each_thing_is_counted(rt: HostRuntime) -> Result<(), Fail> {
             ),
             (
                 b"3 offices, 8 parcels\nat 0: sums\nat 0: tick\nat 0: bytes 1\nat 0: sums\nat 0: sums\n",
-                "refused 2 at 0\nrefused 1 at 1\nstopped: more than 3 things happened\n",
+                "refused 2 at 0\nrefused 1 at 1\nstopped: more than 3 things happened\n(stopped)",
             ),
             (
                 b"3 offices, 8 parcels\nat 0: sums\nall clocks tick\nat 0: sums\n",
-                "refused 2 at 0\nstopped: more than 3 things happened\n",
+                "refused 2 at 0\nstopped: more than 3 things happened\n(stopped)",
             ),
             (
                 b"3 offices, 8 parcels\nall clocks tick\nletter 0 comes\n",
-                "stopped: more than 3 things happened\n",
+                "stopped: more than 3 things happened\n(stopped)",
             ),
             (
                 b"3 offices, 8 parcels\nall clocks tick\nat 9: sums\n",
-                "stopped: more than 3 things happened\n",
+                "stopped: more than 3 things happened\n(stopped)",
             ),
         ],
     )
@@ -39,19 +39,23 @@ fn each_thing_is_counted(rt: HostRuntime) -> Result<(), Fail> {
 
 #[test]
 fn the_programs_budget(rt: HostRuntime) -> Result<(), Fail> {
-    let heap = rt.alloc();
-    let mut file = Vec::new(heap);
+    let mut file = Vec::new(rt.alloc());
     file.extend_from_slice(b"2 offices, 1 parcels\n")?;
     for _ in 0..65_536 {
         file.extend_from_slice(b"at 0: tick\n")?;
     }
-    let all = play(heap, file.as_slice(), BUDGET);
-    assert_eq!(rt; all.shown.as_str(), "");
+    check(
+        &rt,
+        |heap, file| play(heap, file, BUDGET),
+        &[(file.as_slice(), "")],
+    )?;
     file.extend_from_slice(b"at 1: tick\n")?;
-    let one_more = play(heap, file.as_slice(), BUDGET);
-    assert_eq!(rt;
-        one_more.shown.as_str(),
-        "stopped: more than 65536 things happened\n"
-    );
-    Ok(())
+    check(
+        &rt,
+        |heap, file| play(heap, file, BUDGET),
+        &[(
+            file.as_slice(),
+            "stopped: more than 65536 things happened\n(stopped)",
+        )],
+    )
 }

@@ -8,7 +8,7 @@ const NOT_OPENED: &str = "line 1: expected a line such as '3 offices, 8 parcels'
 const LIMITS: &str = "line 1: expected 2 to 4 offices and at most 64 parcels";
 
 #[test]
-fn every_call_is_turned_away(rt: HostRuntime) -> Result<(), Fail> {
+fn calls(rt: HostRuntime) -> Result<(), Fail> {
     check(
         &rt,
         |heap, file| play(heap, file, BUDGET),
@@ -17,16 +17,20 @@ fn every_call_is_turned_away(rt: HostRuntime) -> Result<(), Fail> {
             (b"# nothing\n\n", ""),
             (b"2 offices, 0 parcels", ""),
             (
-                b"4 offices, 64 parcels\nat 3: accept for 2, 50\n",
-                "refused 2 at 0\n",
+                b"2 offices, 0 parcels\nat 0: accept for 1, 50\n",
+                "refused 9 at 0\n",
             ),
             (
-                b"# a comment\n\n3 offices, 8 parcels\r\nat 0: send 0 to 1\r\n",
-                "refused 2 at 1\n",
+                b"4 offices, 64 parcels\nat 3: accept for 2, 50\n",
+                "196608\n",
+            ),
+            (
+                b"# a comment\n\n3 offices, 8 parcels\r\nat 0: accept for 2, 50\r\nat 0: send 0 to 1\r\n",
+                "0\nslip 0: 1 0 1 2 50\n",
             ),
             (
                 b"3 offices, 8 parcels\nat 0: slip 0\nat 1: hand out 0\n",
-                "refused 2 at 0\nrefused 2 at 0\n",
+                "refused 4 at 0\nrefused 4 at 0\n",
             ),
             (
                 b"3 offices, 8 parcels\nat 0: pay 0\nat 0: where is 0\n",
@@ -52,8 +56,8 @@ fn rows_of_bytes(rt: HostRuntime) -> Result<(), Fail> {
         |heap, file| play(heap, file, BUDGET),
         &[
             (
-                b"3 offices, 8 parcels\nat 0: bytes 0 2 0 0 0 50 0 0 0\nat 1: bytes 1 0 0 0 0 1 0 0 0\n",
-                "refused 2 at 0\nrefused 2 at 1\n",
+                b"3 offices, 8 parcels\nat 0: bytes 0 2 0 0 0 50 0 0 0\nat 0: bytes 1 0 0 0 0 1 0 0 0\nat 0: bytes 1 0 0 0 0 0 0 0 0\n",
+                "0\nslip 0: 1 0 1 2 50\nrefused 2 at 1\n",
             ),
             (
                 b"3 offices, 8 parcels\nat 2: bytes 8\nat 2: bytes 7 255 255 255 255\n",
@@ -70,6 +74,10 @@ fn rows_of_bytes(rt: HostRuntime) -> Result<(), Fail> {
             (
                 b"3 offices, 8 parcels\nat 0: bytes 8 8\nat 0: bytes 2 0 0 0 0 0 0 0\n",
                 "refused 1 at 1\nrefused 1 at 5\n",
+            ),
+            (
+                b"3 offices, 8 parcels\nat 0: accept for 2, 50\nat 0: send 0 to 1\nat 1: bytes 3 0 0 0 0 1 0 0 0 0 0 0 0 1 0 0 0 2 0 0 0 50 0 0 0\n",
+                "0\nslip 0: 1 0 1 2 50\n2\n",
             ),
             (
                 b"3 offices, 8 parcels\nat 1: bytes 3 0 0 0 0 1 0 0 0 0 0 0 0 1 0 0 0 2 0 0 0 50 0 0 0\n",
@@ -131,6 +139,10 @@ fn what_cannot_happen(rt: HostRuntime) -> Result<(), Fail> {
                 "refused 2 at 0\nline 3: a slip that was never given out",
             ),
             (
+                b"3 offices, 8 parcels\nat 0: accept for 2, 50\nat 0: send 0 to 1\nat 1: take in 0: 1 0 1 2 51\n",
+                "0\nslip 0: 1 0 1 2 50\nline 4: a slip that was never given out",
+            ),
+            (
                 b"3 offices, 8 parcels\nat 3: take in 0: 1 0 1 2 50\n",
                 "line 2: an office that is not there",
             ),
@@ -150,23 +162,35 @@ fn what_cannot_happen(rt: HostRuntime) -> Result<(), Fail> {
     )
 }
 
+// Each parcel's last step, where the file ends, stops, or has a bad line.
 #[test]
-fn nothing_is_located(rt: HostRuntime) -> Result<(), Fail> {
+fn located(rt: HostRuntime) -> Result<(), Fail> {
     check(
         &rt,
-        |heap, file| locate(heap, file, 2),
+        |heap, file| locate(heap, file, 4),
         &[
+            (b"", ""),
+            (b"at 0: sums", NOT_OPENED),
+            (b"3 offices, 8 parcels\nat 0: sums\nat 0: hand out 0\n", ""),
             (
-                b"3 offices, 8 parcels\nat 0: accept for 2, 50\nat 0: sums\n",
-                "",
+                b"3 offices, 8 parcels\nat 1: accept for 2, 50\nat 0: accept for 2, 7\nat 0: send 0 to 2\nat 2: take in 0: 1 0 2 2 7\n",
+                "0: step 2, come in at 2\n65536: step 0, accepted at 1\n",
             ),
             (
-                b"3 offices, 8 parcels\nall clocks tick\n",
-                "stopped: more than 2 things happened\n",
+                b"3 offices, 8 parcels\nat 0: accept for 0, 7\nat 0: bytes 4 0 0 0 0\nat 0: hand out 0\nat 1: tick\nat 1: accept for 2, 50\n",
+                "0: step 1, handed out at 0\nstopped: more than 4 things happened\n(stopped)",
             ),
             (
-                b"3 offices, 8 parcels\nat 0: sums\nat 3: sums\n",
-                "line 3: an office that is not there",
+                b"3 offices, 8 parcels\nall clocks tick\nat 1: accept for 0, 7\nall clocks tick\n",
+                "65536: step 0, accepted at 1\nstopped: more than 4 things happened\n(stopped)",
+            ),
+            (
+                b"3 offices, 8 parcels\nat 0: accept for 2, 50\nat 0: send 0 to 1\nat 1: take in 0: 1 0 1 2 51\nat 1: take in 0: 1 0 1 2 50\n",
+                "0: step 1, sent on at 0\nline 4: a slip that was never given out",
+            ),
+            (
+                b"3 offices, 8 parcels\nat 0: accept for 2, 50\nat 0: sends 0 to 1\n",
+                "0: step 0, accepted at 0\nline 3: expected accept, send, slip, take in, hand out, pay, where is, here, sums, bytes or tick",
             ),
         ],
     )

@@ -1,5 +1,5 @@
-// A report as one text: what is shown, and behind it the bad line, if there is one.
-use player::Report;
+// A report as one text: what is shown, and behind it that it stopped, or the bad line.
+use player::{End, Report};
 use std::alloc::{AllocError, Global};
 use std::process::Abort;
 use std::test::Fail;
@@ -7,7 +7,8 @@ use std::test::Fail;
 fn whole(heap: Global, report: Report) -> Result<String, AllocError> {
     let shown = report.shown;
     match report.end {
-        Ok(_) => Ok(shown),
+        Ok(End::Done) => Ok(shown),
+        Ok(End::Stopped) => format!(in heap; "{shown}(stopped)"),
         Err(bad) => format!(in heap; "{shown}line {bad}"),
     }
 }

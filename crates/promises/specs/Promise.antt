@@ -1,20 +1,22 @@
 -- What is promised. Each is a statement, a type: a function whose contract names it owes the proof.
-use Rattle.std.specs.Prelude.{◌≡◌, ℕ, zero, suc, ◌+◌, ◌-◌, ◌*◌, ◌<◌, ◌≤◌, Bool, true, false, ◌&&◌, ◌||◌, ◌⊎◌, List, [], ◌∷◌, length, Some, None, Ok, Err, Option, ◌==◌, nat_le, nat_lt, slice_index_or}
+use Rattle.std.specs.Prelude.{◌≡◌, ℕ, zero, suc, ◌+◌, ◌-◌, ◌*◌, ◌<◌, ◌≤◌, Bool, true, false, ◌&&◌, ◌||◌, ◌⊎◌, List, [], ◌∷◌, ◌++◌, length, Some, None, Ok, Err, Option, ◌==◌, nat_le, nat_lt, slice_index, slice_index_or}
 use Rattle.parcels.specs.Numbers.{fewest_offices, most_offices, most_parcels, four_bytes, letter_bytes, all_below, words_a_parcel, words_more}
 use Rattle.parcels.specs.Book.{pick, origin, Book, has, own, is_here, was_handed_out, collected, paid_out}
-use Rattle.parcels.specs.Calls.{Stage, Limits, turned, place, answered, unreadable, needs_news}
+use Rattle.parcels.specs.Calls.{Stage, Limits, turned, place, answered, unreadable, not_refused, needs_news}
+use Rattle.parcels.specs.Laws.{StepsFit, key_told, brings_known_key}
 use Rattle.parcels.specs.declared.Kind.{Kind}
 use Rattle.parcels.specs.declared.Kind.TheVariants.{Accepted, SentOn, ComeIn, HandedOut}
 use Rattle.parcels.specs.declared.Step.{Step}
+use Rattle.parcels.specs.declared.Slip.{Slip}
 use Rattle.parcels.specs.declared.Call.{Call}
 use Rattle.parcels.specs.declared.Call.TheVariants.{Accept, Send, SlipAgain, TakeIn, HandOut, Pay, WhereIs, Here, Sums}
-use Rattle.parcels.specs.declared.Reason.TheVariants.{NothingToPay}
+use Rattle.parcels.specs.declared.Reason.TheVariants.{WrongSlip, NothingToPay}
 use Rattle.parcels.specs.declared.Refusal.{Refusal}
 use Rattle.parcels.specs.declared.Answer.{Answer}
 use Rattle.parcels.specs.declared.Answer.TheVariants.{Refused, Number, Given, At, NothingHeard, Two}
 use Rattle.promises.specs.Truth.{book_of, Move, moves}
 use Rattle.wire.specs.Calls.{Reading}
-use Rattle.promises.specs.World.{Memory, Letter, Office, Said, World, Lived, In, IsRowKnown, row_readable, after_news, Rounds, not_refused, taken}
+use Rattle.promises.specs.World.{Memory, Letter, Office, Said, World, Lived, In, IsGiven, IsSlipKnown, IsRowKnown, row_readable, after_news, Rounds, taken}
 
 -- the limits that an office can be opened with, in a stage
 abbrev pub GoodLimits : Stage → Limits → Type 0
@@ -256,4 +258,60 @@ OldLetters can f =
     f.Called l o (w.memory o) (Ok c) n a ms → f.Called l o ((after_news w x.to m ls).memory o) (Ok c) n' a' ms' → a' ≡ a
 
 -- 7 and 8, that a slip works once and that a call that is turned away changes no book, speak of one book and
--- one call: they stand with the laws of books, SlipOnce and TurnedAway.
+-- one call: they stand with the laws of books, SlipOnce and TurnedAway. SlipSpent, below, is more than 7: of all calls.
+
+-- BESIDE THE EIGHT: that what offices live through happened; which keys are given out, how far steps go, and which slips
+-- are spent, by what was taken everywhere.
+
+-- what offices live through happened: so what is true of all that happened is true of theirs
+abbrev pub LivedHappened : Stage → Office → Type 0
+LivedHappened can f = (l : Limits) (w : World) → GoodLimits can l → Lived f l w → Happened l w.said
+
+-- the key that is given out by an answer to a row of bytes
+abbrev pub row_key_told : Reading → Answer → List ℕ
+row_key_told (Ok c) a = key_told c a
+row_key_told (Err e) a = []
+
+-- the keys that were given out, at all offices together, the last first
+unfoldable pub keys_told : List Said → List ℕ
+keys_told [] = []
+keys_told (x ∷ xs) = row_key_told x.reading x.answer ++ keys_told xs
+
+-- a key that this office gave out
+unfoldable pub IsKeyTold : ℕ → ℕ → List Said → Type 0
+IsKeyTold o key [] = ⊥
+IsKeyTold o key (x ∷ xs) = ((x.at ≡ o) × (row_key_told x.reading x.answer ≡ key ∷ [])) ⊎ IsKeyTold o key xs
+
+-- no key was given out twice, whether at one office or at two; each that was tells the office that gave it out, and is of a
+-- parcel in that one's book; the key of each slip which was given out is of a parcel in the book of the office that it
+-- tells; so a call with such a slip, at whatever office, brings no key which that office has yet to give out
+pub record KeysTold (l : Limits) (xs : List Said) : Type 0 where
+  pub once : (i j : ℕ) → i < length (keys_told xs) → j < length (keys_told xs) → slice_index (keys_told xs) i ≡ slice_index (keys_told xs) j → i ≡ j
+  pub ours : (o key : ℕ) → IsKeyTold o key xs → origin key ≡ o
+  pub kept : (i : ℕ) → i < length (keys_told xs) → has (truth l xs (origin (slice_index (keys_told xs) i))) (slice_index (keys_told xs) i) ≡ true
+  pub slips : (s : Slip) → IsGiven s xs → has (truth l xs (origin s.key)) s.key ≡ true
+  pub next : (o : ℕ) (c : Call) → IsSlipKnown c xs → brings_known_key o (truth l xs o) c ≡ true
+
+-- that is so whatever happened: no two parcels that were accepted get one key
+abbrev pub NoKeyTwice : Type 0
+NoKeyTwice = (can : Stage) (l : Limits) (xs : List Said) → GoodLimits can l → Happened l xs → KeysTold l xs
+
+-- No step in a book goes further than steps of its kind go, and no slip that was given out has one above four_bytes + 1. So
+-- two words of memory and eight bytes of an answer hold every step; a slip can be entered again only where four bytes
+-- hold its step.
+abbrev pub SlipsFit : Type 0
+SlipsFit =
+    (can : Stage) (l : Limits) (xs : List Said) → GoodLimits can l → Happened l xs →
+    ((o : ℕ) → StepsFit (truth l xs o)) × ((s : Slip) → IsGiven s xs → s.step ≤ four_bytes + 1)
+
+-- a slip with which a parcel was taken in, at whatever office
+unfoldable pub IsTakenIn : Slip → List Said → Type 0
+IsTakenIn s [] = ⊥
+IsTakenIn s (x ∷ xs) = ((x.reading ≡ Ok (TakeIn s)) × (not_refused x.answer ≡ true)) ⊎ IsTakenIn s xs
+
+-- it is spent: from then on it is turned away at all offices, as a slip that doesn't work, whatever else happens, and not
+-- only by the book that taking the parcel in leaves
+abbrev pub SlipSpent : Type 0
+SlipSpent =
+    (can : Stage) (l : Limits) (xs : List Said) (o : ℕ) (s : Slip) → GoodLimits can l → Happened l xs → IsTakenIn s xs →
+    turned l o (truth l xs o) (TakeIn s) ≡ Some WrongSlip

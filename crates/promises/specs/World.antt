@@ -1,12 +1,12 @@
 -- Offices, the lines between them, and everything that can happen.
-use Rattle.std.specs.Prelude.{◌≡◌, ℕ, zero, suc, ◌<◌, ◌≤◌, Bool, true, false, ◌⊎◌, List, [], ◌∷◌, ◌++◌, length, drop, Ok, Err, ◌==◌}
+use Rattle.std.specs.Prelude.{◌≡◌, ℕ, zero, suc, ◌<◌, ◌≤◌, Bool, true, ◌⊎◌, List, [], ◌∷◌, ◌++◌, length, drop, Ok, Err, ◌==◌}
 use Rattle.parcels.specs.Book.{pick}
-use Rattle.parcels.specs.Calls.{Limits}
+use Rattle.parcels.specs.Calls.{Limits, not_refused}
 use Rattle.parcels.specs.declared.Slip.{Slip}
 use Rattle.parcels.specs.declared.Call.{Call}
 use Rattle.parcels.specs.declared.Call.TheVariants.{Accept, Send, SlipAgain, TakeIn, HandOut, Pay, WhereIs, Here, Sums}
 use Rattle.parcels.specs.declared.Answer.{Answer}
-use Rattle.parcels.specs.declared.Answer.TheVariants.{Refused, Number, Given, At, NothingHeard, Two}
+use Rattle.parcels.specs.declared.Answer.TheVariants.{Given}
 use Rattle.wire.specs.Layout.{readable}
 use Rattle.wire.specs.Calls.{Reading}
 use Rattle.promises.specs.Truth.{Taken}
@@ -122,15 +122,6 @@ Round f l w v = (u : World) × Ticks f l w l.offices u × Come f l u (drop (leng
 unfoldable pub Rounds : ℕ → Office → Limits → World → World → Type 0
 Rounds zero f l w v = w ≡ v
 Rounds (suc n) f l w v = (u : World) × Round f l w u × Rounds n f l u v
-
--- an answer other than a refusal
-abbrev pub not_refused : Answer → Bool
-not_refused (Refused refusal) = false
-not_refused (Number n) = true
-not_refused (Given slip) = true
-not_refused (At step) = true
-not_refused NothingHeard = true
-not_refused (Two m n) = true
 
 -- a call that was not refused was taken
 abbrev pub taken_by : ℕ → Reading → Answer → List Taken

@@ -1,1 +1,4 @@
 pub mod Stage
+pub mod Happened
+pub mod Truth
+pub mod Promises

@@ -1,37 +1,44 @@
 // What is promised, for the office that runs, over everything that can happen at all offices. Each function
-// does nothing: its contract is the theorem, and its proof is what the check asks for.
+// does nothing: its contract is the theorem, and its proof is what the check asks for. In this stage parcels
+// move; paying, where a parcel is, what is here and sums are turned away.
 #![tactic(auto)]
 
-ghost use Rattle.parcels.specs.Calls.{nothing};
-ghost use Rattle.promises.specs.Promise.{Right, RefusalKeeps, NewsComes, StaysSmall, NeverBack, OldLetters};
-ghost use Rattle.world.specs.Ours.{ours};
+ghost use Rattle.parcels.specs.Calls.{moving};
+ghost use Rattle.promises.specs.Promise.{Right, RefusalKeeps, NewsComes, StaysSmall, NeverBack, OldLetters, LivedHappened};
+ghost use Rattle.theorems.specs.Ours.{ours};
 
 // Each answer is right, whatever happened before.
 pub fn answers_are_right()
-    ensures { Right nothing ours }
+    ensures { Right moving ours }
 {}
 
 // A call that is turned away changes nothing and sends nothing.
 pub fn refusals_keep()
-    ensures { RefusalKeeps nothing ours }
+    ensures { RefusalKeeps moving ours }
 {}
 
-// News comes, even if all letters until now are lost: in this stage no parcel ever took a step.
+// News comes, even if all letters until now are lost. No office sends any yet: in this stage both calls whose
+// answers would take it are turned away.
 pub fn news_comes()
-    ensures { NewsComes nothing ours }
+    ensures { NewsComes moving ours }
 {}
 
 // Memory and letters stay small.
 pub fn stays_small()
-    ensures { StaysSmall nothing ours }
+    ensures { StaysSmall moving ours }
 {}
 
-// What an office tells of a parcel never goes back.
+// What an office tells of a parcel never goes back: in this stage it tells nothing.
 pub fn never_back()
-    ensures { NeverBack nothing ours }
+    ensures { NeverBack moving ours }
 {}
 
 // A letter that comes again, or late, changes no answer that an office can give by itself.
 pub fn old_letters_change_nothing()
-    ensures { OldLetters nothing ours }
+    ensures { OldLetters moving ours }
+{}
+
+// What offices live through happened: so what is true of all that happened (crate truths) is true of theirs.
+pub fn what_is_lived_happened()
+    ensures { LivedHappened moving ours }
 {}

@@ -21,7 +21,7 @@ struct Told {
 }
 
 // The step that an exchange tells of, if the call was taken and makes one.
-fn step_told(said: Exchange) -> Option<Told>
+fn told_by(said: Exchange) -> Option<Told>
     ensures { Tells said result }
 {
     let (key, kind) = match (said.reading.ok()?, said.answer) {
@@ -52,7 +52,7 @@ pub fn last_steps(heap: Global, journal: &[Exchange]) -> Result<BTreeMap<u32, St
 {
     let mut steps = BTreeMap::new(heap);
     for said in journal {
-        if let Some(Told { key, kind, office }) = step_told(*said) {
+        if let Some(Told { key, kind, office }) = told_by(*said) {
             let number = next_number(steps.get(&key).copied());
             steps.insert(
                 key,

@@ -1,5 +1,5 @@
 // Journals, and the last step of each parcel by them.
-use crate::said::{accepted, come_in, handed_out, no_steps, questions, sent_on};
+use crate::said::{accepted, come_in, handed_out, no_steps, questions, sent_on, wrong_answers};
 use parcels::{Answer, Kind, Reason, Refusal, Step};
 use std::process::Abort;
 use std::test::Fail;
@@ -70,15 +70,17 @@ fn two_parcels(rt: HostRuntime) -> Result<(), Fail> {
     )
 }
 
-// What was turned away, what makes no step, and what is no call lies between.
+// What was turned away, what has an answer of another call, what makes no step, and what is no call lies between.
 #[test]
 fn no_step_between(rt: HostRuntime) -> Result<(), Fail> {
     let mut journal = Vec::new(rt.alloc());
     journal.extend_from_slice(&no_steps(0, 0))?;
+    journal.extend_from_slice(&wrong_answers(0, 0))?;
     journal.extend_from_slice(&questions(0, 0))?;
     check(&rt, journal.as_slice(), &[])?;
     journal.push(accepted(0, 0))?;
     journal.extend_from_slice(&no_steps(1, 0))?;
+    journal.extend_from_slice(&wrong_answers(0, 0))?;
     journal.push(Exchange {
         at: 0,
         reading: Err(UnreadableCall { place: 3 }),

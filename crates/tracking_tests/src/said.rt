@@ -46,11 +46,7 @@ pub(crate) fn sent_on(at: u32, key: u32, to: u32) -> Exchange {
 }
 
 pub(crate) fn come_in(at: u32, key: u32) -> Exchange {
-    said(
-        at,
-        Call::TakeIn { slip: slip(key) },
-        Answer::Number(u64::from(key)),
-    )
+    said(at, Call::TakeIn { slip: slip(key) }, Answer::Number(2))
 }
 
 pub(crate) fn handed_out(at: u32, key: u32) -> Exchange {
@@ -73,13 +69,34 @@ pub(crate) fn no_steps(at: u32, key: u32) -> [Exchange; 4] {
     ]
 }
 
+// The same calls, each with an answer of a shape that it never gets.
+pub(crate) fn wrong_answers(at: u32, key: u32) -> [Exchange; 4] {
+    [
+        said(
+            at,
+            Call::Accept {
+                dest: 2,
+                amount: 50,
+            },
+            Answer::Given(slip(key)),
+        ),
+        said(at, Call::Send { key, to: 1 }, Answer::Number(2)),
+        said(
+            at,
+            Call::TakeIn { slip: slip(key) },
+            Answer::Given(slip(key)),
+        ),
+        said(at, Call::HandOut { key }, Answer::Two(50, 0)),
+    ]
+}
+
 // The calls that make none, each taken.
 pub(crate) fn questions(at: u32, key: u32) -> [Exchange; 5] {
     [
         said(at, Call::SlipAgain { key }, Answer::Given(slip(key))),
         said(at, Call::Pay { key }, Answer::Number(50)),
         said(at, Call::WhereIs { key }, Answer::NothingHeard),
-        said(at, Call::Here { from: key }, Answer::Number(1)),
+        said(at, Call::Here { from: key }, Answer::Two(1, 1)),
         said(at, Call::Sums, Answer::Two(50, 0)),
     ]
 }

@@ -8,7 +8,7 @@ use Rattle.parcels.specs.declared.Call.TheVariants.{Sums}
 use Rattle.parcels.specs.declared.Answer.TheVariants.{Given, NothingHeard}
 use Rattle.promises.specs.World.{Said, IsGiven}
 use Rattle.world.specs.declared.Exchange.{Exchange}
-use Rattle.world.specs.Ours.{history}
+use Rattle.world.specs.Journal.{history}
 
 abbrev pub said_of : Exchange → Said
 said_of x = record { at = x.at; reading = x.reading; answer = x.answer }

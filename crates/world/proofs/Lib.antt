@@ -1,3 +1,4 @@
 mod Journal
 mod Asking
-pub mod Stage
+mod Stations
+mod Happens

@@ -1,4 +1,5 @@
-pub mod Ours
+pub mod Stations
+pub mod Journal
 pub mod View
 pub mod Opening
 pub mod Outcome

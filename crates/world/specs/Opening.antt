@@ -1,7 +1,7 @@
 -- Opening a world: all its offices, or none.
 use Rattle.std.specs.Prelude.{◌≡◌, ℕ, true, false, [], Ok, Err, Result}
 use Rattle.book.specs.Opening.{in_range}
-use Rattle.office.specs.Opening.{stage_limits}
+use Rattle.moves.specs.Stage.{stage_limits}
 use Rattle.world.specs.declared.CannotHappen.{CannotHappen}
 use Rattle.world.specs.declared.CannotHappen.TheVariants.{BadLimits, NoOffice, NoSuchCall, NeverGiven, NeverSent, NoMemory}
 use Rattle.world.specs.declared.World.{World}

@@ -1,21 +1,17 @@
 -- What comes of each thing that happens in a world: its answer, or why it can't happen; and the journal after it.
-use Rattle.std.specs.Prelude.{◌≡◌, ℕ, ◌<◌, ◌≤◌, true, false, ◌⊎◌, List, [], ◌∷◌, ◌++◌, Ok, Err, Result, vec_items, nat_lt, slice_index_or}
+use Rattle.std.specs.Prelude.{◌≡◌, ℕ, ◌<◌, ◌≤◌, true, false, ◌⊎◌, List, [], ◌∷◌, ◌++◌, Ok, Err, Result, nat_lt}
 use Rattle.parcels.specs.Book.{pick}
 use Rattle.parcels.specs.Calls.{Limits}
 use Rattle.parcels.specs.declared.Call.{Call}
 use Rattle.parcels.specs.declared.Answer.{Answer}
 use Rattle.wire.specs.Layout.{readable}
 use Rattle.wire.specs.Calls.{Reading, Reads}
-use Rattle.std.specs.Borrow.{Bor}
-use Rattle.office.specs.declared.Office.{Office}
 use Rattle.promises.specs.World.{IsRowKnown}
 use Rattle.promises.specs.Promise.{RightRow}
 use Rattle.world.specs.declared.Exchange.{Exchange}
 use Rattle.world.specs.declared.CannotHappen.{CannotHappen}
 use Rattle.world.specs.declared.CannotHappen.TheVariants.{BadLimits, NoOffice, NoSuchCall, NeverGiven, NeverSent, NoMemory}
-use Rattle.world.specs.declared.World.{World}
-use Rattle.world.specs.Ours.{history}
-use Rattle.world.specs.View.{limits_of}
+use Rattle.world.specs.Journal.{history}
 
 -- what is handed to an office as a call happens where the office is there and the call's slip, if it has one,
 -- was given out; then its answer is right and it is written into the journal. Else, and where memory is wanting,
@@ -40,8 +36,3 @@ Called l xs o c a ys = ((readable c ≡ false) × (a ≡ Err NoSuchCall) × (ys 
 -- what can happen at an office happens only where the office is there
 abbrev pub at_office : ℕ → ℕ → Result (Unit {0}) CannotHappen
 at_office offices o = pick (nat_lt o offices) (Ok tt) (Err NoOffice)
-
--- the office with a number, where there is one
-abbrev pub OfficeAt : World → ℕ → Result (Bor Office) CannotHappen → Type 0
-OfficeAt w o (Ok x) = (o < (limits_of w).offices) × ((d : Office) → x.now ≡ slice_index_or (vec_items w.offices) o d)
-OfficeAt w o (Err e) = ((limits_of w).offices ≤ o) × (e ≡ NoOffice)

@@ -1,28 +1,24 @@
 // The things that can happen in a world.
-ghost use Rattle.std.specs.Prelude.{◌≡◌, ◌<◌, Err, Decides};
-ghost use Rattle.office.specs.Opening.{office_limits};
-ghost use Rattle.office.specs.Answering.{AnswersRow};
+ghost use Rattle.std.specs.Prelude.{◌≡◌, ◌<◌, [], ◌∷◌, ◌++◌, Err, Decides, IsErr, vec_items, vec_len, vec_capacity};
 ghost use Rattle.promises.specs.World.{IsGiven, IsRowKnown};
 ghost use Rattle.world.specs.declared.CannotHappen.TheVariants.{NeverSent};
-ghost use Rattle.world.specs.Ours.{history};
+ghost use Rattle.world.specs.Journal.{history};
 ghost use Rattle.world.specs.Opening.{Opens};
-ghost use Rattle.world.specs.Outcome.{Came, Called, OfficeAt, at_office};
-ghost use Rattle.world.specs.View.{limits_of, journal_of};
+ghost use Rattle.world.specs.Outcome.{Came, Called, at_office};
+ghost use Rattle.world.specs.View.{limits_of, journal_of, memories};
 
+use crate::station::Station;
 use crate::{CannotHappen, Exchange, World};
-use office::Office;
 use parcels::{Answer, Call, Slip};
 use std::alloc::Global;
-use wire::{ANSWER_BYTES, MAX_CALL_BYTES, UnreadableCall, read_answer, read_call, write_call};
+use wire::{MAX_CALL_BYTES, UnreadableCall, read_call, write_call};
 
-// What an office answers to a row of bytes, read from the bytes that it writes. They are lent, so the count of those
-// that were written comes beside them: an office has no heap.
-fn ask(office: &Office, row: &[u8]) -> Answer
-    ensures { AnswersRow (office_limits office.now) office.now.opening.own row.now result }
+// Writes an exchange into the journal, where there is room for it already.
+fn write_down(journal: &mut Vec<Exchange>, exchange: Exchange)
+    requires { vec_len journal.old < vec_capacity journal.old }
+    ensures { vec_items journal.new ≡ vec_items journal.old ++ (exchange ∷ []) }
 {
-    let mut out = [0; ANSWER_BYTES];
-    let len = office.call(row, &mut out).unwrap();
-    read_answer(&out[..len]).unwrap()
+    journal.push(exchange).unwrap();
 }
 
 impl World {
@@ -34,14 +30,12 @@ impl World {
         // by number, which is what each is opened with. Which limits are in range is for an office to say: with none at
         // all, office 0 is tried and refused
         for own in 0..offices.max(1) {
-            let Ok(office) = Office::open(offices, own, parcels) else {
-                return Err(CannotHappen::BadLimits);
-            };
-            opened.push(office)?;
+            let station = Station::open(heap, offices, own, parcels)?;
+            opened.push(station)?;
         }
         Ok(World {
             parcels,
-            offices: opened,
+            stations: opened,
             journal: Vec::new(heap),
         })
     }
@@ -70,7 +64,7 @@ impl World {
         ensures { result ≡ (limits_of self.now).offices }
     {
         // a post has few offices, so nothing is cut off
-        self.offices.len() as u32
+        self.stations.len() as u32
     }
 
     // What was handed to offices as calls, and what they answered, the oldest first.
@@ -87,20 +81,22 @@ impl World {
         0
     }
 
-    // The office with this number, if it is there.
-    fn office(&self, at: u32) -> Result<&Office, CannotHappen>
-        ensures { OfficeAt self.now at result }
+    // Whether an office is there.
+    fn check_office(&self, at: u32) -> Result<(), CannotHappen>
+        ensures { result ≡ at_office (limits_of self.now).offices at }
     {
-        self.offices.get(at as usize).ok_or(CannotHappen::NoOffice)
+        if at >= self.offices() {
+            return Err(CannotHappen::NoOffice);
+        }
+        Ok(())
     }
 
     // An office's clock ticks: nothing comes of it, in this stage.
     pub fn tick(&self, clock: u32) -> Result<(), CannotHappen>
         ensures { result ≡ at_office (limits_of self.now).offices clock }
     {
-        // the office is there, and has nothing to do yet
-        self.office(clock)?;
-        Ok(())
+        // the office has nothing to do yet
+        self.check_office(clock)
     }
 
     // A letter comes, by its number among all that were sent: none was, in this stage.
@@ -114,26 +110,33 @@ impl World {
     pub fn bytes(&mut self, at: u32, row: &[u8]) -> Result<Answer, CannotHappen>
         ensures value { Came (limits_of self.old) (journal_of self.old) at row.now result (journal_of self.new) }
         ensures same { limits_of self.new ≡ limits_of self.old }
+        ensures kept { IsErr result → memories self.new ≡ memories self.old }
     {
         let reading = read_call(row);
-        let office = self.office(at)?;
+        self.check_office(at)?;
         if !self.slip_is_known(reading) {
             return Err(CannotHappen::NeverGiven);
         }
-        let answer = ask(office, row);
-        self.journal.push(Exchange {
-            at,
-            reading,
-            answer,
-        })?;
+        // before the office is asked, so that nothing is done where there is no memory to write it down
+        self.journal.reserve(1)?;
+        let answer = self.stations[at as usize].ask(row);
+        write_down(
+            &mut self.journal,
+            Exchange {
+                at,
+                reading,
+                answer,
+            },
+        );
         Ok(answer)
     }
 
-    // A clerk makes a call at an office: it goes there as bytes, written into lent ones with room for the longest call,
-    // since below the text nothing has a heap.
+    // A clerk makes a call at an office: it goes there as bytes, written into lent ones with room for the longest call, so
+    // that its bytes want no heap.
     pub fn call(&mut self, at: u32, call: Call) -> Result<Answer, CannotHappen>
         ensures value { Called (limits_of self.old) (journal_of self.old) at call result (journal_of self.new) }
         ensures same { limits_of self.new ≡ limits_of self.old }
+        ensures kept { IsErr result → memories self.new ≡ memories self.old }
     {
         let mut row = [0; MAX_CALL_BYTES];
         let Some(len) = write_call(call, &mut row) else {

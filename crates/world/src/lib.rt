@@ -1,19 +1,21 @@
 // The world of offices and lines: what can happen happens here, one thing at a time, and each call is answered right.
 #![tactic(auto)]
 
-ghost use Rattle.std.specs.Prelude.{◌≡◌, ℕ, ◌<◌, true, vec_len, slice_index_or};
+ghost use Rattle.std.specs.Prelude.{◌≡◌, true, vec_items, vec_len};
 ghost use Rattle.book.specs.Opening.{in_range};
-ghost use Rattle.office.specs.Opening.{stage_limits, IsOpened};
-ghost use Rattle.office.specs.declared.Office.{Office};
+ghost use Rattle.moves.specs.Stage.{stage_limits};
 ghost use Rattle.promises.specs.World.{Lived};
-ghost use Rattle.world.specs.Ours.{ours, world_of};
+ghost use Rattle.theorems.specs.Ours.{ours};
+ghost use Rattle.world.specs.Stations.{Numbered};
+ghost use Rattle.world.specs.Journal.{world_of};
 
-use office::Office;
 use parcels::{Answer, Call};
-use std::alloc::AllocFailed;
+use station::Station;
+use std::alloc::{AllocError, AllocFailed};
 use wire::UnreadableCall;
 
 mod happen;
+mod station;
 
 // What was handed to an office as a call, by what its bytes were read as, and what it answered.
 #[derive(Clone, Copy)]
@@ -47,15 +49,27 @@ impl<T: Drop> From<AllocFailed<T>> for CannotHappen {
     }
 }
 
-// All offices of a post, from number 0 up, each with the same limit of parcels, and the journal of all that was
-// handed to them as calls, the oldest first. The invariant: what it holds came about by things that can happen. Others
-// see its limits and its journal, and these apart, since the promises speak of each.
+impl From<AllocError> for CannotHappen {
+    ghost use Rattle.std.specs.Prelude.{◌≡◌};
+    ghost use Rattle.world.specs.declared.CannotHappen.TheVariants.{NoMemory};
+
+    ghost from_gives = { λ _ e. e ≡ NoMemory };
+
+    fn from(_e: AllocError) -> CannotHappen {
+        CannotHappen::NoMemory
+    }
+}
+
+// All offices of a post, from number 0 up, each with the same limit of parcels and with memory of its own, and the journal of
+// all that was handed to them as calls, the oldest first. The invariant: the limits are in range, each office was opened with
+// them and with its number, and what the world holds came about by things that can happen. Others see its limits,
+// its journal and what its offices have in memory, and these apart, since the promises speak of each.
 #[derive(Drop)]
 pub struct World {
     parcels: u32,
-    offices: Vec<Office>,
+    stations: Vec<Station>,
     journal: Vec<Exchange>,
-    ghost good: { in_range (vec_len offices) 0 parcels ≡ true },
-    ghost numbered: { ∥ ((k : ℕ) (d : Office) → k < vec_len offices → IsOpened (slice_index_or offices.items k d) (vec_len offices) k parcels) ∥₁ },
-    ghost lived: { ∥ Lived ours (stage_limits (vec_len offices) parcels) (world_of journal.items) ∥₁ },
+    ghost good: { in_range (vec_len stations) 0 parcels ≡ true },
+    ghost numbered: { Numbered (vec_items stations) (vec_len stations) parcels },
+    ghost lived: { ∥ Lived ours (stage_limits (vec_len stations) parcels) (world_of (vec_items stations) (vec_items journal)) ∥₁ },
 }

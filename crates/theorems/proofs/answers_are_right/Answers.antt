@@ -1,4 +1,4 @@
-use Rattle.theorems.proofs.Stage.{answers_right}
+use Rattle.theorems.proofs.Promises.{answers_right}
 use Rattle.theorems.proofs.answers_are_right.Goals as goal
 
 pub returns : goal.returns

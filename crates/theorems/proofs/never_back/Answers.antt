@@ -1,4 +1,4 @@
-use Rattle.theorems.proofs.Stage.{never_back}
+use Rattle.theorems.proofs.Promises.{never_back}
 use Rattle.theorems.proofs.never_back.Goals as goal
 
 pub returns : goal.returns

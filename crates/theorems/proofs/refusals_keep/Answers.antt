@@ -1,4 +1,4 @@
-use Rattle.theorems.proofs.Stage.{refusal_keeps}
+use Rattle.theorems.proofs.Promises.{refusal_keeps}
 use Rattle.theorems.proofs.refusals_keep.Goals as goal
 
 pub returns : goal.returns

@@ -1,4 +1,4 @@
-use Rattle.theorems.proofs.Stage.{stays_small}
+use Rattle.theorems.proofs.Promises.{stays_small}
 use Rattle.theorems.proofs.stays_small.Goals as goal
 
 pub returns : goal.returns

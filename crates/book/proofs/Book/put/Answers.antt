@@ -3,10 +3,13 @@ use Rattle.std.proofs.lemmas.Bool.{or_left}
 use Rattle.parcels.specs.Book.{pick, with_own}
 use Rattle.rows.specs.Layout.{book_at}
 use Rattle.book.specs.Search.{RowOf}
+use Rattle.book.proofs.Kept.{steps_kept}
 use Rattle.book.proofs.Book.put.Goals as goal
 
 pub invariant_of-self : goal.invariant_of-self
-invariant_of-self c = record { sound = (c.change.ensures c.args.self.now.opening.own c.args.self.now.opening.parcels c.args.self.now.sound).sound }
+invariant_of-self c =
+    let put = c.change.ensures c.args.self.now.opening.own c.args.self.now.opening.parcels c.args.self.now.sound in
+    record { sound = put.sound; steps = steps_kept c.args.self.now.memory.now c.change.new.memory c.args.entry put.after c.args.self.now.steps c.requires.fits }
 
 pub returns-in-Ok-clause-after : goal.returns-in-Ok-clause-after
 returns-in-Ok-clause-after c =

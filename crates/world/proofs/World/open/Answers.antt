@@ -1,17 +1,21 @@
 use Rattle.std.proofs.Common.{◌≡◌, ℕ, ◌+◌, ◌<◌, ◌≤◌, max, true, List, get_or, vec_items, vec_len, sym, refl, ◌∙◌, subst, arith, below_more}
 use Rattle.std.proofs.lemmas.Bool.Decides.{nat_tests}
 use Rattle.book.specs.Opening.{in_range}
-use Rattle.office.specs.Opening.{IsOpened}
-use Rattle.office.specs.declared.Office.{Office}
-use Rattle.world.proofs.Stage.{begins}
+use Rattle.theorems.specs.Ours.{Fresh}
+use Rattle.world.specs.declared.station.Station.{Station}
+use Rattle.world.specs.Stations.{words_of, IsOpened}
+use Rattle.world.proofs.Happens.{begins}
 use Rattle.world.proofs.World.open.Goals as goal
 
+abbrev Begun : Station → ℕ → ℕ → ℕ → Type 0
+Begun x n k p = IsOpened x.opening n k p × Fresh p (words_of x)
+
 -- one office more
-numbered_more : (n p i m : ℕ) (xs ys : List Office) (x : Office) → m ≡ i → IsOpened x n i p → ((k : ℕ) (d : Office) → k < m → get_or ys k d ≡ get_or xs k d) →
-    ((d : Office) → get_or ys m d ≡ x) → ((k : ℕ) (d : Office) → k < i → IsOpened (get_or xs k d) n k p) → (k : ℕ) (d : Office) → k < i + 1 → IsOpened (get_or ys k d) n k p
-numbered_more n p i m xs ys x e is before last inv k d h =
-    below_more (λ k. IsOpened (get_or ys k d) n k p) i (λ k h. subst (λ (y : Office). IsOpened y n k p) (sym (before k d (omega arith))) (inv k d h))
-    (subst (λ (j : ℕ). IsOpened (get_or ys j d) n i p) e (subst (λ (y : Office). IsOpened y n i p) (sym (last d)) is)) k h
+begun_more : (n p i m : ℕ) (xs ys : List Station) (x : Station) → m ≡ i → Begun x n i p → ((k : ℕ) (d : Station) → k < m → get_or ys k d ≡ get_or xs k d) →
+    ((d : Station) → get_or ys m d ≡ x) → ((k : ℕ) (d : Station) → k < i → Begun (get_or xs k d) n k p) → (k : ℕ) (d : Station) → k < i + 1 → Begun (get_or ys k d) n k p
+begun_more n p i m xs ys x e is before last inv k d h =
+    below_more (λ k. Begun (get_or ys k d) n k p) i (λ k h. subst (λ (y : Station). Begun y n k p) (sym (before k d (omega arith))) (inv k d h))
+    (subst (λ (j : ℕ). Begun (get_or ys j d) n i p) e (subst (λ (y : Station). Begun y n i p) (sym (last d)) is)) k h
 
 from_first : (n o p : ℕ) → in_range n o p ≡ true → in_range n 0 p ≡ true
 from_first n o p h = grind (arith, nat_tests)
@@ -19,9 +23,9 @@ from_first n o p h = grind (arith, nat_tests)
 pub loop-own-preserved : goal.loop-own-preserved
 loop-own-preserved c = (
   omega (arith, c.in_ok-push.ensures.len, c.loop-own.invariant.0),
-  numbered_more c.args.offices c.args.parcels c.loop-own.own (vec_len c.loop-own.opened) (vec_items c.loop-own.opened) (vec_items c.push.new.self) c.in-Ok.office
-      c.loop-own.invariant.0 (c.in-Ok.ensures.1, c.in-Ok.ensures.2, c.in-Ok.ensures.3) c.in_ok-push.ensures.by_index.0 (λ d. c.in_ok-push.ensures.by_index.1 d refl) c.loop-own.invariant.1,
-  λ _. from_first c.args.offices c.loop-own.own c.args.parcels c.in-Ok.ensures.0,
+  begun_more c.args.offices c.args.parcels c.loop-own.own (vec_len c.loop-own.opened) (vec_items c.loop-own.opened) (vec_items c.push.new.self) c.in_ok-station.station
+      c.loop-own.invariant.0 (c.in_ok-station.ensures.1, c.in_ok-station.ensures.2) c.in_ok-push.ensures.by_index.0 (λ d. c.in_ok-push.ensures.by_index.1 d refl) c.loop-own.invariant.1,
+  λ _. from_first c.args.offices c.loop-own.own c.args.parcels c.in_ok-station.ensures.0,
 )
 
 -- all are open, where the first could be
@@ -35,4 +39,9 @@ whole c =
 
 pub invariant_of-result : goal.invariant_of-result
 invariant_of-result c =
-    let all : vec_len c.loop-own.opened ≡ c.args.offices = (whole c).0 in record { good = rw all (whole c).1; numbered = ∣ (λ k d h. rw all (c.loop-own.invariant.1 k d (omega (arith, c.loop-own.invariant.0)))) ∣₁; lived = begins (vec_len c.loop-own.opened) c.args.parcels (vec_items c.new.result) c.new.ensures.items }
+    let all : vec_len c.loop-own.opened ≡ c.args.offices = (whole c).0 in
+    record {
+      good = rw all (whole c).1;
+      numbered = λ k d h. rw all (c.loop-own.invariant.1 k d (omega (arith, c.loop-own.invariant.0, h))).0;
+      lived = begins (vec_len c.loop-own.opened) c.args.parcels (vec_items c.loop-own.opened) (vec_items c.new.result) (sym c.loop-own.opened.ok.0) (λ k d h. (c.loop-own.invariant.1 k d (omega (arith, c.loop-own.invariant.0, h))).1) c.new.ensures.items;
+    }

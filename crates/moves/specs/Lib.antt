@@ -1,0 +1,3 @@
+pub mod Stage
+pub mod Checks
+pub mod Handled

@@ -1,0 +1,75 @@
+-- The books that offices have in truth, as one thing more is said: only the book of the office that answered goes on, by a
+-- call that it didn't refuse.
+use Rattle.std.proofs.Common.{◌≡◌, ℕ, Bool, true, false, eqb, eqb-true, eq-eqb, List, [], ◌∷◌, ◌++◌, Ok, Err, refl, sym, ◌∙◌, subst}
+use Rattle.parcels.specs.Book.{pick, Book}
+use Rattle.parcels.specs.Calls.{Limits, after, not_refused}
+use Rattle.parcels.specs.declared.Call.{Call}
+use Rattle.parcels.specs.declared.Answer.{Answer}
+use Rattle.wire.specs.Calls.{Reading}
+use Rattle.promises.specs.Truth.{Taken, book_of}
+use Rattle.promises.specs.World.{Said, taken_by, taken}
+use Rattle.promises.specs.Promise.{truth}
+
+-- what was said, with one thing more
+abbrev pub and_said : ℕ → Reading → Answer → List Said → List Said
+and_said o r a xs = record { at = o; reading = r; answer = a } ∷ xs
+
+-- an office's book in truth, after it answered a row of bytes
+abbrev pub book_then : Limits → ℕ → Book → Reading → Answer → Book
+book_then l o b (Ok c) a = pick (not_refused a) (after l o b c) b
+book_then l o b (Err e) a = b
+
+book_of_append : (l : Limits) (o : ℕ) (ts us : List Taken) (b : Book) → book_of l o (ts ++ us) b ≡ book_of l o us (book_of l o ts b)
+unfolding book_of
+book_of_append l o [] us b = refl
+book_of_append l o (t ∷ ts) us b = book_of_append l o ts us (pick (eqb t.at o) (after l o b t.call) b)
+
+-- the book in truth, with one thing more said
+said_more : (l : Limits) (xs : List Said) (o q : ℕ) (r : Reading) (a : Answer) → truth l (and_said q r a xs) o ≡ book_of l o (taken_by q r a) (truth l xs o)
+unfolding taken
+said_more l xs o q r a = book_of_append l o (taken xs) (taken_by q r a) []
+
+-- by an answer the book of the office that gave it goes on, and that of another stays
+goes_on : (l : Limits) (o : ℕ) (b : Book) (r : Reading) (a : Answer) → book_of l o (taken_by o r a) b ≡ book_then l o b r a
+unfolding book_of
+goes_on l o b (Ok c) a = go (not_refused a)
+  where
+    go : (t : Bool) → book_of l o (pick t (record { at = o; call = c } ∷ []) []) b ≡ pick t (after l o b c) b
+    go true = rw (eq-eqb o o refl)
+    go false = refl
+goes_on l o b (Err e) a = refl
+
+stays : (l : Limits) (o q : ℕ) (b : Book) (r : Reading) (a : Answer) → eqb q o ≡ false → book_of l o (taken_by q r a) b ≡ b
+unfolding book_of
+stays l o q b (Ok c) a other = go (not_refused a)
+  where
+    go : (t : Bool) → book_of l o (pick t (record { at = q; call = c } ∷ []) []) b ≡ b
+    go true = rw other
+    go false = refl
+stays l o q b (Err e) a other = refl
+
+-- the book of the office that answered goes on
+pub truth_here : (l : Limits) (xs : List Said) (o : ℕ) (r : Reading) (a : Answer) → truth l (and_said o r a xs) o ≡ book_then l o (truth l xs o) r a
+truth_here l xs o r a = said_more l xs o o r a ∙ goes_on l o (truth l xs o) r a
+
+-- and every other one stays as it was
+pub truth_elsewhere : (l : Limits) (xs : List Said) (o q : ℕ) (r : Reading) (a : Answer) → eqb q o ≡ false → truth l (and_said q r a xs) o ≡ truth l xs o
+truth_elsewhere l xs o q r a other = said_more l xs o q r a ∙ stays l o q (truth l xs o) r a other
+
+-- what is so of the one that went on, and of the others as they were, is so of each
+pub each_truth : (l : Limits) (xs : List Said) (o : ℕ) (r : Reading) (a : Answer) (P : ℕ → Book → Type 0) → P o (book_then l o (truth l xs o) r a) → ((q : ℕ) → eqb o q ≡ false → P q (truth l xs q)) →
+    (q : ℕ) → P q (truth l (and_said o r a xs) q)
+each_truth l xs o r a P here elsewhere q = go (eqb o q) refl
+  where
+    go : (t : Bool) → eqb o q ≡ t → P q (truth l (and_said o r a xs) q)
+    go true is = subst (λ p. P p (truth l (and_said o r a xs) p)) (eqb-true o q is) (subst (P o) (sym (truth_here l xs o r a)) here)
+    go false other = subst (P q) (sym (truth_elsewhere l xs q o r a other)) (elsewhere q other)
+
+-- what is so of a book and of the one after a call, is so of the one after an answer to it
+pub if_said : (l : Limits) (o : ℕ) (b : Book) (r : Reading) (a : Answer) (P : Book → Type 0) → P b → ((c : Call) → r ≡ Ok c → P (after l o b c)) → P (book_then l o b r a)
+if_said l o b (Ok c) a P same new = go (not_refused a)
+  where
+    go : (t : Bool) → P (pick t (after l o b c) b)
+    go true = new c refl
+    go false = same
+if_said l o b (Err e) a P same new = same

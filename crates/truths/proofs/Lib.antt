@@ -1,0 +1,6 @@
+pub mod Books
+pub mod Parcels
+pub mod Slips
+pub mod Keys
+pub mod Steps
+pub mod Spent

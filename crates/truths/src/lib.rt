@@ -1,0 +1,21 @@
+// What is so of everything that was taken at all offices, where each answer was right: theorems that speak of no
+// office's program. Each function does nothing: its contract is the theorem, and its proof is what the check asks for.
+#![tactic(auto)]
+
+ghost use Rattle.promises.specs.Promise.{NoKeyTwice, SlipsFit, SlipSpent};
+
+// No key is given out twice, over all offices; each tells the office that gave it out; and no slip brings one that its
+// office has yet to give out.
+pub fn no_key_is_given_twice()
+    ensures { NoKeyTwice }
+{}
+
+// No step in a book goes further than steps of its kind go, and no slip is given out with one above 4,294,967,297.
+pub fn slips_fit()
+    ensures { SlipsFit }
+{}
+
+// Once a parcel was taken in with a slip, that slip is turned away for ever, at all offices, as one that doesn't work.
+pub fn slips_are_spent()
+    ensures { SlipSpent }
+{}
