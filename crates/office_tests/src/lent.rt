@@ -1,0 +1,67 @@
+// An office in lent memory, and what it is asked.
+ghost use Rattle.book.specs.Ready.{Ready};
+
+use book::opening::Opening;
+use office::Office;
+use parcels::{Answer, Call, Refusal};
+use std::process::Abort;
+use wire::{MAX_CALL_BYTES, read_answer, write_call};
+
+// What each lent word, and each lent byte, is before anything is written.
+pub(crate) const LENT: u32 = 0xeeee_eeee;
+
+pub(crate) const LENT_BYTE: u8 = 0xee;
+
+// How many words are lent: as many as three parcels ask for, and four more.
+pub(crate) const WORDS: usize = 100;
+
+// A refusal as its numbers.
+pub(crate) fn numbers(e: Refusal) -> (u8, u64) {
+    (e.reason.into(), e.place)
+}
+
+// What an office was opened with, and its memory. Each call takes it up again over that.
+#[derive(Clone, Copy)]
+pub(crate) struct Lent {
+    pub opening: Opening,
+    pub memory: [u32; WORDS],
+    ghost ready: { Ready opening.own opening.parcels memory },
+}
+
+impl Lent {
+    // Opens an office with limits that are in range.
+    pub(crate) fn open(rt: &impl Abort, offices: u32, own: u32, parcels: u32) -> Lent {
+        let mut memory = [LENT; WORDS];
+        let Ok(opening) = Office::open(offices, own, parcels, &mut memory) else {
+            panic!(rt; "{own} of {offices} offices, {parcels} parcels");
+        };
+        Lent { opening, memory }
+    }
+
+    // What it answers to a row of bytes. Each lent byte behind the answer stays.
+    pub(crate) fn ask(&mut self, rt: &impl Abort, row: &[u8]) -> Answer {
+        let mut out = [LENT_BYTE; 70];
+        let len = Office::over(self.opening, &mut self.memory).call(row, &mut out);
+        let Some(len) = len else {
+            panic!(rt; "no answer to {row:?}");
+        };
+        assert!(rt; len <= 64);
+        for byte in &out[len..] {
+            assert_eq!(rt; *byte, LENT_BYTE);
+        }
+        let Some(answer) = read_answer(&out[..len]) else {
+            panic!(rt; "answer {out:?} to {row:?}");
+        };
+        answer
+    }
+
+    // What it answers to a call.
+    pub(crate) fn call(&mut self, rt: &impl Abort, call: Call) -> Answer {
+        let mut row = [0; MAX_CALL_BYTES];
+        let Some(len) = write_call(call, &mut row) else {
+            panic!(rt; "no bytes are the call");
+        };
+        assert!(rt; len <= MAX_CALL_BYTES);
+        self.ask(rt, &row[..len])
+    }
+}

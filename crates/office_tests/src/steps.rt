@@ -1,0 +1,124 @@
+// Parcels' ways through an office, and what its memory keeps of them.
+ghost use Rattle.std.specs.Prelude.{◌≡◌};
+
+use crate::lent::{LENT, LENT_BYTE, Lent};
+use office::Office;
+use parcels::{Answer, Call, Reason, Refusal, Slip};
+use std::process::Abort;
+
+// A slip with the largest step that a call can carry: the next steps are wider than a word.
+#[test]
+fn the_largest_step(rt: HostRuntime) {
+    let mut lent = Lent::open(&rt, 3, 1, 3);
+    let slip = Slip {
+        key: 131_072,
+        step: 4_294_967_295,
+        from: 2,
+        to: 1,
+        dest: 0,
+        amount: 50,
+    };
+    assert!(rt; lent.call(&rt, Call::TakeIn { slip }) == Answer::Number(0));
+    // key, step, marks, to, dest, amount, and the links, which lead nowhere
+    assert_eq!(rt;
+        &lent.memory[24..33],
+        [131_072, 0, 1, 2, 1, 0, 50, 0, 0].as_slice()
+    );
+    let sent = Slip {
+        step: 4_294_967_297,
+        from: 1,
+        to: 0,
+        ..slip
+    };
+    let send = Call::Send {
+        key: 131_072,
+        to: 0,
+    };
+    assert!(rt; lent.call(&rt, send) == Answer::Given(sent));
+    assert_eq!(rt;
+        &lent.memory[24..33],
+        [131_072, 1, 1, 1, 0, 0, 50, 0, 0].as_slice()
+    );
+    let before = lent.memory;
+    let again = Call::SlipAgain { key: 131_072 };
+    assert!(rt; lent.call(&rt, again) == Answer::Given(sent));
+    assert!(rt; lent.memory == before);
+}
+
+// What is kept of a parcel that was accepted, and of one that was handed out.
+#[test]
+fn accepted_and_handed_out(rt: HostRuntime) {
+    let mut lent = Lent::open(&rt, 3, 1, 3);
+    let passing = Call::Accept {
+        dest: 2,
+        amount: 50,
+    };
+    assert!(rt; lent.call(&rt, passing) == Answer::Number(65_536));
+    assert_eq!(rt;
+        &lent.memory[24..33],
+        [65_536, 0, 0, 0, 1, 2, 50, 0, 0].as_slice()
+    );
+    let staying = Call::Accept { dest: 1, amount: 7 };
+    assert!(rt; lent.call(&rt, staying) == Answer::Number(65_537));
+    let hand_out = Call::HandOut { key: 65_537 };
+    assert!(rt; lent.call(&rt, hand_out) == Answer::Number(7));
+    assert_eq!(rt;
+        &lent.memory[48..57],
+        [65_537, 1, 0, 3, 1, 1, 7, 0, 0].as_slice()
+    );
+}
+
+// The office answers a row of bytes by these.
+fn check_answer(rt: &impl Abort, office: &mut Office, row: &[u8], answer: &[u8])
+    ensures same_opening { office.new.opening ≡ office.old.opening }
+    ensures same_reference { office.new.memory.ghost_name ≡ office.old.memory.ghost_name }
+{
+    let mut out = [LENT_BYTE; 64];
+    assert_eq!(rt; office.call(row, &mut out), Some(answer.len()));
+    assert!(rt; answer.len() <= 64);
+    assert_eq!(rt; &out[..answer.len()], answer);
+}
+
+// An office is left after two calls, and taken up again over its memory.
+#[test]
+fn taken_up_again(rt: HostRuntime) {
+    let mut lent = Lent::open(&rt, 3, 0, 3);
+    // accept for 0, 50
+    let accept = b"\x00\x00\x00\x00\x00\x32\x00\x00\x00";
+    let mut left = Office::over(lent.opening, &mut lent.memory);
+    check_answer(
+        &rt,
+        &mut left,
+        accept,
+        b"\x01\x00\x00\x00\x00\x00\x00\x00\x00",
+    );
+    check_answer(
+        &rt,
+        &mut left,
+        accept,
+        b"\x01\x01\x00\x00\x00\x00\x00\x00\x00",
+    );
+    // hand out 0, twice
+    let hand_out = b"\x04\x00\x00\x00\x00";
+    let mut office = Office::over(lent.opening, &mut lent.memory);
+    check_answer(
+        &rt,
+        &mut office,
+        hand_out,
+        b"\x01\x32\x00\x00\x00\x00\x00\x00\x00",
+    );
+    check_answer(
+        &rt,
+        &mut office,
+        hand_out,
+        b"\x00\x04\x00\x00\x00\x00\x00\x00\x00\x00\x00\x00\x00\x00\x00\x00\x00",
+    );
+    // a third parcel, and no fourth
+    assert!(rt; lent.ask(&rt, accept) == Answer::Number(2));
+    let refusal = Refusal {
+        reason: Reason::OverLimit,
+        place: 0,
+    };
+    assert!(rt; lent.ask(&rt, accept) == Answer::Refused(refusal));
+    assert_eq!(rt; &lent.memory[96..], [LENT; 4].as_slice());
+}
