@@ -1,20 +1,19 @@
 -- What a sound book has: its rows are the book's entries, each under a key of its own, and the search finds them.
-use Rattle.std.proofs.Common.{◌≡◌, ℕ, ◌+◌, ◌<◌, ◌≤◌, ◌/◌, ◌^◌, true, false, ◌≢◌, List, length, Ok, Err, Result, sym, ap, ◌∙◌, subst, refl, arith, slice_index_or}
-use Rattle.std.proofs.lemmas.List.FromFn.{length-map-range_with_len, get_or-map-range_with_len}
-use Rattle.parcels.specs.Book.{has, own, with_own, accepted}
-use Rattle.parcels.specs.Laws.{most_step, StepsFit}
+use Rattle.std.proofs.Common.{◌≡◌, ℕ, ◌+◌, ◌<◌, ◌≤◌, ◌/◌, ◌^◌, true, false, ◌≢◌, List, length, Ok, Err, Result, sym, ap, ◌∙◌, subst, arith}
+use Rattle.std.proofs.lemmas.List.FromFn.{length-map-range_with_len}
+use Rattle.parcels.specs.Book.{has, own, with_own, each_once, accepted}
+use Rattle.parcels.specs.Laws.{StepFits, StepsFit}
 use Rattle.parcels.specs.declared.Entry.{Entry}
 use Rattle.rows.specs.Layout.{head_at, entry_at, link_at, book_at}
 use Rattle.rows.specs.declared.Link.{Link}
 use Rattle.book.specs.Tree.{tree_of, key_bits, Spot, at, free, spot_height, height, SoundTree, spot_of}
 use Rattle.book.specs.Sound.{Sound}
 use Rattle.book.specs.Search.{end_of, RowOf, search_end}
-use Rattle.book.specs.Keeping.{Distinct}
 use Rattle.book.proofs.Search.{hangs_row, whole_way, way_at, way_free}
 use Rattle.laws.proofs.Keys.{accepted_few}
-use Rattle.laws.proofs.Steps.{steps_put}
+use Rattle.laws.proofs.Books.{each_put}
 use Rattle.book.proofs.Growth.{found_at}
-use Rattle.book.proofs.Lists.{Only, absent, present}
+use Rattle.book.proofs.Lists.{Only, absent, present, rows_once}
 
 pub book_length : (m : List ℕ) → length (book_at m) ≡ (head_at m).count
 unfolding book_at
@@ -47,17 +46,10 @@ module _ (m : List ℕ) (sound : SoundTree (tree_of m) (head_at m).count) where
       ap (λ k. spot_of (tree_of m) k) e in
       cc
 
-  -- so no two entries have
-  pub distinct : Distinct (book_at m)
+  -- so each parcel has one entry
+  pub once : each_once (book_at m) ≡ true
   unfolding book_at
-  distinct i j d low high e =
-      let n : length (book_at m) ≡ (head_at m).count = book_length m in
-      let a : slice_index_or (book_at m) i d ≡ entry_at m (1 + i) = get_or-map-range_with_len (entry_at m) 1 (head_at m).count i (1 + i) d (omega arith) refl in
-      let b : slice_index_or (book_at m) j d ≡ entry_at m (1 + j) = get_or-map-range_with_len (entry_at m) 1 (head_at m).count j (1 + j) d (omega arith) refl in
-      let k : (entry_at m (1 + i)).key ≡ (entry_at m (1 + j)).key =
-      ap (λ (x : Entry). x.key) (sym a) ∙ e ∙ ap (λ (x : Entry). x.key) b in
-      let once : 1 + i ≡ 1 + j = row_once (1 + i) (1 + j) (omega arith) (omega arith) (omega arith) (omega arith) k in
-      omega arith
+  once = rows_once (entry_at m) 1 (head_at m).count (λ q r low next high e. absurd (omega (arith, next, row_once r q (omega arith) (omega arith) low (omega arith) e)))
 
   module _ (key : ℕ) (small : key < 2 ^ key_bits) where
     -- the row that a search found has the key, and no other has
@@ -108,5 +100,5 @@ row_of own parcels m key sound small (Ok row) is =
 row_of own parcels m key sound small (Err end) is = (is, (leads_nowhere m sound.tree key small end is).0, no_entry m sound.tree key small end is)
 
 -- an entry was put in whose step goes no further than steps go
-pub steps_kept : (m m' : List ℕ) (e : Entry) → book_at m' ≡ with_own (book_at m) e → StepsFit (book_at m) → e.step ≤ most_step e.kind → StepsFit (book_at m')
-steps_kept m m' e is fit low = subst StepsFit (sym is) (steps_put (book_at m) e fit low)
+pub steps_kept : (m m' : List ℕ) (e : Entry) → book_at m' ≡ with_own (book_at m) e → StepsFit (book_at m) → StepFits e → StepsFit (book_at m')
+steps_kept m m' e is fit low = subst StepsFit (sym is) (each_put StepFits (book_at m) e fit low)

@@ -2,7 +2,7 @@
 use Rattle.std.proofs.Common.{◌≡◌, ℕ, zero, suc, ◌+◌, ◌<◌, ◌≤◌, true, false, eqb, inl, inr, ◌≢◌, [], ◌∷◌, ◌++◌, map, refl, ap, ◌∙◌, arith, eq-eqb, ne_eqb}
 use Rattle.std.specs.List.{range_with_len}
 use Rattle.std.proofs.lemmas.Bool.{cases_eq}
-use Rattle.parcels.specs.Book.{Book, has, own, with_own}
+use Rattle.parcels.specs.Book.{Book, has, own, with_own, each_once}
 use Rattle.parcels.specs.declared.Entry.{Entry}
 
 -- the entries of n rows from row a on
@@ -14,6 +14,14 @@ unfolding has
 absent f a zero key other = refl
 absent f a (suc n) key other =
     rw (ne_eqb (f a).key key (other a (omega arith) (omega arith))) (absent f (a + 1) n key (λ r low high. other r (omega arith) (omega arith)))
+
+-- where no two rows have one key, each parcel has one entry
+pub rows_once : (f : ℕ → Entry) (a n : ℕ) → ((q r : ℕ) → a ≤ q → q < r → r < a + n → (f r).key ≢ (f q).key) → each_once (entries f a n) ≡ true
+unfolding each_once
+rows_once f a zero once = refl
+rows_once f a (suc n) once =
+    let first : has (entries f (a + 1) n) (f a).key ≡ false = absent f (a + 1) n (f a).key (λ r low high. once a r (omega arith) (omega arith) (omega arith)) in
+    rw first (rows_once f (a + 1) n (λ q r low next high. once q r (omega arith) next (omega arith)))
 
 -- the row of a key, and no other has that key
 pub record Only (f : ℕ → Entry) (a n key row : ℕ) : Type 0 where

@@ -1,5 +1,5 @@
 -- What laying out, looking up and putting in come to.
-use Rattle.std.specs.Prelude.{◌≡◌, ℕ, ◌<◌, ◌≤◌, Bool, ◌||◌, List, [], length, Some, None, Option, Ok, Err, Result, slice_index, slice_index_or}
+use Rattle.std.specs.Prelude.{◌≡◌, ℕ, ◌<◌, ◌≤◌, Bool, ◌||◌, List, [], length, Some, None, Option, Ok, Err, Result, slice_index}
 use Rattle.parcels.specs.Book.{pick, Book, has, own, with_own, has_room}
 use Rattle.parcels.specs.declared.Entry.{Entry}
 use Rattle.parcels.specs.declared.Refusal.{Refusal}
@@ -28,10 +28,6 @@ LaysOut own parcels m m' (Err e) = (length m < words_for parcels) × (e ≡ smal
 -- what a book has of a key
 abbrev pub looked_up : Book → ℕ → Option Entry
 looked_up b key = pick (has b key) (Some (own b key)) None
-
--- each parcel of a book has a key of its own
-abbrev pub Distinct : Book → Type 0
-Distinct b = (i j : ℕ) (d : Entry) → i < length b → j < length b → (slice_index_or b i d).key ≡ (slice_index_or b j d).key → i ≡ j
 
 -- whether an entry can be put in: its parcel is known, or there is room for one more
 abbrev pub can_put : ℕ → Book → Entry → Bool

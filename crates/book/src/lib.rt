@@ -2,15 +2,15 @@
 #![tactic(auto)]
 
 ghost use Rattle.std.specs.Prelude.{◌≡◌, ◌≤◌, true, length, MatchOption, is_ok, IsErr};
-ghost use Rattle.parcels.specs.Book.{has_room, accepted};
-ghost use Rattle.parcels.specs.Laws.{most_step, StepsFit};
+ghost use Rattle.parcels.specs.Book.{each_once, has_room, accepted};
+ghost use Rattle.parcels.specs.Laws.{StepFits, StepsFit};
 ghost use Rattle.parcels.specs.Calls.{new_key};
 ghost use Rattle.rows.specs.Layout.{book_at};
 ghost use Rattle.book.specs.Search.{RowOf};
 ghost use Rattle.book.specs.Sound.{Sound};
 ghost use Rattle.book.specs.Ready.{Ready};
 ghost use Rattle.book.specs.Keys.{next_key, NewKey};
-ghost use Rattle.book.specs.Keeping.{looked_up, Distinct, can_put, put_in, SameElsewhere};
+ghost use Rattle.book.specs.Keeping.{looked_up, can_put, put_in, SameElsewhere};
 
 use key::KeyParts;
 use opening::Opening;
@@ -112,7 +112,7 @@ impl<'a> Book<'a> {
     // What it has of a parcel.
     pub fn find(&self, key: u32) -> Option<Entry>
         ensures value { result ≡ looked_up (book_in self.now) key }
-        ensures distinct { Distinct (book_in self.now) }
+        ensures once { each_once (book_in self.now) ≡ true }
     {
         let row = self.row_of(key).ok()?;
         Some(read_entry(self.memory, row))
@@ -122,7 +122,7 @@ impl<'a> Book<'a> {
     // others. Two words hold any step; but that none goes further than steps go is kept here, for whoever makes the next.
     #[tactic(auto, using(crate::proofs::Kept::steps_kept))]
     pub fn put(&mut self, entry: Entry) -> Result<(), Full>
-        requires fits { entry.step ≤ most_step entry.kind }
+        requires fits { StepFits entry }
         ensures value { is_ok result ≡ can_put self.old.opening.parcels (book_in self.old) entry }
         ensures after { book_in self.new ≡ put_in self.old.opening.parcels (book_in self.old) entry }
         ensures same { IsErr result → self.new.memory.now ≡ self.old.memory.now }

@@ -1,9 +1,10 @@
 -- Laws of looking up and putting in. Each goes down the book, and by cases on whether an entry has the key.
-use Rattle.std.proofs.Common.{◌≡◌, ℕ, suc, ◌+◌, Bool, true, false, ◌||◌, eqb, [], ◌∷◌, length, refl, sym, ap, ◌∙◌, subst, inl, inr, arith, eq-eqb, eqb-true}
-use Rattle.std.proofs.lemmas.Bool.{cases_Bool, or_left, or_right}
+use Rattle.std.proofs.Common.{◌≡◌, ℕ, suc, ◌+◌, Bool, true, false, ◌||◌, eqb, [], ◌∷◌, length, not, refl, sym, ap, ◌∙◌, subst, inl, inr, arith, eq-eqb, eqb-true}
+use Rattle.std.proofs.lemmas.Bool.{cases_Bool, or_left, or_right, and_parts, not-true, false_from_ne_true}
+use Rattle.std.proofs.lemmas.Bool.Decides.{nat_tests}
 use borrow.Author.Tests.{clash}
-use Rattle.parcels.specs.Book.{pick, Book, has, own, with_own}
-use Rattle.parcels.specs.Laws.{BookLaws}
+use Rattle.parcels.specs.Book.{pick, Book, has, own, with_own, each_once}
+use Rattle.parcels.specs.Laws.{BookLaws, Each}
 use Rattle.parcels.specs.declared.Entry.{Entry}
 
 same : (n : ℕ) → eqb n n ≡ true
@@ -99,6 +100,40 @@ put_is b e key P new old =
       | inl same ↦ let is : e.key ≡ key = eqb-true e.key key same in subst (λ k. P (own (with_own b e) k)) is (subst P (sym (own_put b e)) (new is))
       | inr other ↦ subst P (sym (own_other b e key other)) (old other)
     ]
+
+-- so what is so of each entry, and of one that is put in, is so of each one then
+pub each_put : (P : Entry → Type 0) (b : Book) (e : Entry) → Each P b → P e → Each P (with_own b e)
+each_put P b e old new key there =
+    put_is b e key P (λ _. new) (λ other. let had : has b key ≡ true = grind (arith, has_put b e key) in old key had)
+
+-- where each parcel has one entry, the first one's has none behind it
+pub once_parts : (e : Entry) (es : Book) → each_once (e ∷ es) ≡ true → (has es e.key ≡ false) × (each_once es ≡ true)
+unfolding each_once
+once_parts e es once = let (new, rest) = and_parts (not (has es e.key)) (each_once es) once in (not-true (has es e.key) new, rest)
+
+-- what is so of each of its entries is so of the first, and of each one behind it
+pub each_parts : (P : Entry → Type 0) (e : Entry) (es : Book) → each_once (e ∷ es) ≡ true → Each P (e ∷ es) → P e × Each P es
+unfolding has own
+each_parts P e es once all = (
+  subst (λ t. P (pick t e (own es e.key))) (same e.key) (all e.key (or_left (eqb e.key e.key) (has es e.key) (same e.key))),
+  λ key there.
+      let other : eqb e.key key ≡ false = false_from_ne_true (eqb e.key key) (λ is. let new : has es key ≡ false = rw (← eqb-true e.key key is) (once_parts e es once).0 in absurd (cc)) in
+      subst (λ t. P (pick t e (own es key))) other (all key (or_right (eqb e.key key) (has es key) there)),
+)
+
+-- and each parcel has one entry still, whatever is put in
+once_put_at : (x e : Entry) (xs : Book) (t : Bool) → eqb x.key e.key ≡ t → each_once (x ∷ xs) ≡ true → each_once (with_own xs e) ≡ true → each_once (pick t (e ∷ xs) (x ∷ with_own xs e)) ≡ true
+unfolding each_once
+once_put_at x e xs true q once h = let is : x.key ≡ e.key = eqb-true x.key e.key q in rw (← is) once
+once_put_at x e xs false q once h =
+    let (new, rest) = once_parts x xs once in
+    let other : eqb e.key x.key ≡ false = grind (arith, nat_tests) in
+    rw (has_put xs e x.key, other, new, h)
+
+pub once_put : (b : Book) (e : Entry) → each_once b ≡ true → each_once (with_own b e) ≡ true
+unfolding has with_own each_once
+once_put [] e once = refl
+once_put (x ∷ xs) e once = once_put_at x e xs (eqb x.key e.key) refl once (once_put xs e (once_parts x xs once).1)
 
 pub laws : BookLaws
 laws =

@@ -40,16 +40,18 @@ not_turned l o b c = go (turned l o b c)
     go None h = refl
     go (Some r) h = absurd (cc)
 
--- what is so of a book with a refusal, and of the one after a call that its checks let through with what is told, is so of
--- the one after any call with its answer
-pub if_taken : (l : Limits) (o : ℕ) (b : Book) (c : Call) (P : Book → Answer → Type 0) → ((r : Reason) → P b (Refused (refusal c r))) → (checked l o b c ≡ None → P (changed o b c) (told o b c)) → P (after l o b c) (answered l o b c)
-if_taken l o b c P same new = go (l.can (call_number c) && good_fields l o c) (checked l o b c) new
+-- what is so of a book with a refusal, and of the one after a call with good fields that its checks let through, with what is
+-- told, is so of the one after any call with its answer
+pub if_taken : (l : Limits) (o : ℕ) (b : Book) (c : Call) (P : Book → Answer → Type 0) → ((r : Reason) → P b (Refused (refusal c r))) →
+    (good_fields l o c ≡ true → checked l o b c ≡ None → P (changed o b c) (told o b c)) → P (after l o b c) (answered l o b c)
+if_taken l o b c P same new = go (l.can (call_number c)) (good_fields l o c) (checked l o b c) new
   where
-    go : (good : Bool) (t : Option Reason) → (t ≡ None → P (changed o b c) (told o b c)) →
-        P (unless (pick good t (Some OutOfRange)) (changed o b c) (λ r. b)) (unless (pick good t (Some OutOfRange)) (told o b c) (λ r. Refused (refusal c r)))
-    go true None new = new refl
-    go true (Some r) new = same r
-    go false t new = same OutOfRange
+    go : (can good : Bool) (t : Option Reason) → (good ≡ true → t ≡ None → P (changed o b c) (told o b c)) →
+        P (unless (pick (can && good) t (Some OutOfRange)) (changed o b c) (λ r. b)) (unless (pick (can && good) t (Some OutOfRange)) (told o b c) (λ r. Refused (refusal c r)))
+    go true true None new = new refl refl
+    go true true (Some r) new = same r
+    go true false t new = same OutOfRange
+    go false good t new = same OutOfRange
 
 and_false : (t : Bool) → (t && false) ≡ false
 and_false true = refl

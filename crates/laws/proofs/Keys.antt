@@ -107,9 +107,9 @@ fresh_ordered l o keys b e is room limit x =
 -- each thing that a call does keeps the order, where a slip brings no key that the office has yet to give out
 keeps : (l : Limits) (o : ℕ) (keys : List ℕ) (b : Book) {c : Call} {more : List ℕ} {b' : Book} → Did l o b c more b' → brings_known_key o b c ≡ true → l.parcels ≤ most_parcels → Ordered l o keys b → Ordered l o (more ++ keys) b'
 keeps l o keys b nothing k limit x = x
-keeps l o keys b (accepts dest amount room) k limit x = fresh_ordered l o keys b (accepted_entry o (new_key o b) dest amount) refl room limit x
-keeps l o keys b (comes s p works room) k limit x = known_ordered l o keys b (came_entry o s p) k room x
-keeps l o keys b (leaves key e there here is step most) k limit x = let old : has b e.key ≡ true = rw is there in known_ordered l o keys b e (rw old) (rw old) x
+keeps l o keys b (accepts dest amount room _) k limit x = fresh_ordered l o keys b (accepted_entry o (new_key o b) dest amount) refl room limit x
+keeps l o keys b (comes s paid works room _) k limit x = known_ordered l o keys b (came_entry o s paid) k room x
+keeps l o keys b (leaves key e there here is step most _) k limit x = let old : has b e.key ≡ true = rw is there in known_ordered l o keys b e (rw old) (rw old) x
 keeps l o keys b (pays key there) k limit x = known_ordered l o keys b (paid_entry key (own b key)) (rw there) (rw there) x
 
 ordered : {l : Limits} {o : ℕ} {keys : List ℕ} {b : Book} → ByCalls l o keys b → l.parcels ≤ most_parcels → Ordered l o keys b

@@ -3,4 +3,7 @@ pub mod Calls
 pub mod Did
 pub mod Keys
 pub mod Steps
+pub mod Sums
+pub mod Append
+pub mod Shelf
 mod Example

@@ -5,22 +5,17 @@ use Rattle.std.proofs.lemmas.Bool.Decides.{nat_tests}
 use Rattle.parcels.specs.Numbers.{four_bytes, all_below, call_values}
 use Rattle.parcels.specs.Book.{Book, has, own, with_own, leaves_it_here, has_room}
 use Rattle.parcels.specs.Calls.{Limits, after, accepted_entry, came_entry, paid_entry, new_key, slip_works}
-use Rattle.parcels.specs.Laws.{most_step, StepsFit, StepsStayFit}
+use Rattle.parcels.specs.Laws.{most_step, StepFits, StepsFit, StepsStayFit}
 use Rattle.parcels.specs.declared.Kind.{Kind}
 use Rattle.parcels.specs.declared.Kind.TheVariants.{Accepted, SentOn, ComeIn, HandedOut}
 use Rattle.parcels.specs.declared.Slip.{Slip}
 use Rattle.parcels.specs.declared.Entry.{Entry}
 use Rattle.parcels.specs.declared.Call.{Call}
-use Rattle.laws.proofs.Books.{has_put, put_is}
+use Rattle.laws.proofs.Books.{put_is, each_put}
 use Rattle.laws.proofs.Did.{Did, nothing, accepts, comes, leaves, pays, did, call_keeps}
 
--- an entry is put in whose step goes no further
-pub steps_put : (b : Book) (e : Entry) → StepsFit b → e.step ≤ most_step e.kind → StepsFit (with_own b e)
-steps_put b e fit low key there =
-    put_is b e key (λ x. x.step ≤ most_step x.kind) (λ _. low) (λ other. let had : has b key ≡ true = grind (arith, has_put b e key) in fit key had)
-
 -- a parcel that is at an office may still make a step
-pub here_low : (e : Entry) → leaves_it_here e.kind ≡ true → e.step ≤ most_step e.kind → e.step ≤ four_bytes
+pub here_low : (e : Entry) → leaves_it_here e.kind ≡ true → StepFits e → e.step ≤ four_bytes
 here_low e t low = go e.kind t low
   where
     go : (k : Kind) → leaves_it_here k ≡ true → e.step ≤ most_step k → e.step ≤ four_bytes
@@ -32,10 +27,10 @@ here_low e t low = go e.kind t low
 -- each thing that a call does leaves none that goes further, where four bytes hold the step of a slip
 kept : (l : Limits) (o : ℕ) (b : Book) {c : Call} {keys : List ℕ} {b' : Book} → Did l o b c keys b' → all_below four_bytes (call_values c) ≡ true → StepsFit b → StepsFit b'
 kept l o b nothing small fit = fit
-kept l o b (accepts dest amount room) small fit = steps_put b (accepted_entry o (new_key o b) dest amount) fit zero-le
-kept l o b (comes s p works room) small fit = steps_put b (came_entry o s p) fit (grind (arith, nat_tests))
-kept l o b (leaves key e there here is step most) small fit = steps_put b e fit (omega (arith, step, most, here_low (own b key) here (fit key there)))
-kept l o b (pays key there) small fit = steps_put b (paid_entry key (own b key)) fit (fit key there)
+kept l o b (accepts dest amount room _) small fit = each_put StepFits b (accepted_entry o (new_key o b) dest amount) fit zero-le
+kept l o b (comes s paid works room _) small fit = each_put StepFits b (came_entry o s paid) fit (grind (arith, nat_tests))
+kept l o b (leaves key e there here is step most _) small fit = each_put StepFits b e fit (omega (arith, step, most, here_low (own b key) here (fit key there)))
+kept l o b (pays key there) small fit = each_put StepFits b (paid_entry key (own b key)) fit (fit key there)
 
 pub stay_fit : StepsStayFit
 unfolding has
@@ -53,13 +48,13 @@ newer o b s works there = grind (arith, nat_tests)
 pub rising : (l : Limits) (o : ℕ) (b : Book) {c : Call} {keys : List ℕ} {b' : Book} → Did l o b c keys b' → (has_room l.parcels b ≡ true → has b (new_key o b) ≡ false) → (key : ℕ) → has b key ≡ true →
     (own b key).step ≤ (own b' key).step
 rising l o b nothing new key there = omega arith
-rising l o b (accepts dest amount room) new key there =
+rising l o b (accepts dest amount room _) new key there =
     up b (accepted_entry o (new_key o b) dest amount) key
     (λ is. let free : has b key ≡ false = rw (← is) (new room) in absurd (cc))
-rising l o b (comes s p works room) new key there =
-    up b (came_entry o s p) key
+rising l o b (comes s paid works room _) new key there =
+    up b (came_entry o s paid) key
     (λ is. let low : (own b s.key).step < s.step = newer o b s works (rw is there) in rw (← is) (omega (arith, low)))
-rising l o b (leaves k e had here is step most) new key there =
+rising l o b (leaves k e had here is step most _) new key there =
     up b e key (λ same. let at : k ≡ key = sym is ∙ same in rw (← at) (omega (arith, step)))
 rising l o b (pays k had) new key there = up b (paid_entry k (own b k)) key (λ same. rw same (omega arith))
 

@@ -1,5 +1,5 @@
 -- What an office has of parcels by its own calls: a book, a list of entries in the order in which they came.
-use Rattle.std.specs.Prelude.{ℕ, suc, ◌+◌, ◌-◌, ◌/◌, Bool, true, false, ◌&&◌, ◌||◌, List, [], ◌∷◌, length, ◌==◌, nat_le, nat_lt}
+use Rattle.std.specs.Prelude.{ℕ, suc, ◌+◌, ◌-◌, ◌/◌, Bool, true, false, not, ◌&&◌, ◌||◌, List, [], ◌∷◌, length, ◌==◌, nat_le, nat_lt}
 use Rattle.parcels.specs.Numbers.{keys_of_an_office}
 use Rattle.parcels.specs.declared.Kind.{Kind}
 use Rattle.parcels.specs.declared.Kind.TheVariants.{Accepted, SentOn, ComeIn, HandedOut}
@@ -62,6 +62,11 @@ was_handed_out HandedOut = true
 abbrev pub is_here : Book → ℕ → Bool
 is_here b key = has b key && leaves_it_here (own b key).kind
 
+-- whether each parcel of a book has one entry
+unfoldable pub each_once : Book → Bool
+each_once [] = true
+each_once (e ∷ es) = not (has es e.key) && each_once es
+
 -- whether one more parcel is within the limit
 abbrev pub has_room : ℕ → Book → Bool
 has_room parcels b = nat_lt (length b) parcels
@@ -71,24 +76,44 @@ unfoldable pub accepted : ℕ → Book → ℕ
 accepted o [] = 0
 accepted o (e ∷ es) = pick (origin e.key == o) 1 0 + accepted o es
 
+-- a parcel counts as one where it is at the office
+abbrev pub counted_here : Entry → ℕ
+counted_here e = pick (leaves_it_here e.kind) 1 0
+
 -- how many parcels are at the office
 unfoldable pub how_many_here : Book → ℕ
 how_many_here [] = 0
-how_many_here (e ∷ es) = pick (leaves_it_here e.kind) 1 0 + how_many_here es
+how_many_here (e ∷ es) = counted_here e + how_many_here es
 
--- of the parcels at the office the one with the smallest key from some key on: one more than its key, or 0 for none
+-- whether a parcel is at the office, with a key from some key on, and before the one that was found, where one was (`found` is
+-- one more than that one's key, or 0)
+abbrev pub comes_first : ℕ → Entry → ℕ → Bool
+comes_first from e found = leaves_it_here e.kind && (nat_le from e.key && (found == 0 || nat_lt e.key (found - 1)))
+
+-- the first parcel here from a key on, of one more entry and of those among which `found` was the first: one more than its
+-- key, or 0 for none
+abbrev pub first_with : ℕ → Entry → ℕ → ℕ
+first_with from e found = pick (comes_first from e found) (suc e.key) found
+
+-- the same of all parcels of a book
 unfoldable pub first_here : Book → ℕ → ℕ
 first_here [] from = 0
-first_here (e ∷ es) from =
-    let r : ℕ = first_here es from in
-    pick (leaves_it_here e.kind && (nat_le from e.key && (r == 0 || nat_lt e.key (r - 1)))) (suc e.key) r
+first_here (e ∷ es) from = first_with from e (first_here es from)
+
+-- what was collected for a parcel: its amount, where it was handed out at the office
+abbrev pub collected_for : Entry → ℕ
+collected_for e = pick (was_handed_out e.kind) e.amount 0
 
 -- what was collected at the office
 unfoldable pub collected : Book → ℕ
 collected [] = 0
-collected (e ∷ es) = pick (was_handed_out e.kind) e.amount 0 + collected es
+collected (e ∷ es) = collected_for e + collected es
+
+-- what was paid out for a parcel: its amount, where the office paid it
+abbrev pub paid_for : Entry → ℕ
+paid_for e = pick e.paid e.amount 0
 
 -- what was paid out at the office
 unfoldable pub paid_out : Book → ℕ
 paid_out [] = 0
-paid_out (e ∷ es) = pick e.paid e.amount 0 + paid_out es
+paid_out (e ∷ es) = paid_for e + paid_out es

@@ -1,9 +1,9 @@
--- Laws of books and of calls on them: BookLaws, SlipOnce, TurnedAway, StepsStayFit and KeysOnce, each the contract of a
--- function of the crate laws. The other definitions serve the last two, and some also the book's invariant and what is true
--- of all offices.
-use Rattle.std.specs.Prelude.{◌≡◌, ℕ, ◌+◌, ◌%◌, ◌<◌, ◌≤◌, Bool, true, false, not, ◌||◌, List, [], ◌∷◌, ◌++◌, length, slice_index, is_some, Some, None, ◌==◌}
-use Rattle.parcels.specs.Numbers.{four_bytes, all_below, call_values, most_parcels, keys_of_an_office}
-use Rattle.parcels.specs.Book.{pick, origin, Book, has, own, with_own, accepted}
+-- Laws of books and of calls on them: BookLaws, SlipOnce, TurnedAway, StepsStayFit, SumsStayFit and KeysOnce, each the contract
+-- of a function of the crate laws. Some of the other definitions also serve a book's invariant and what is true of all offices.
+-- The laws of what is at an office stand in Shelf.
+use Rattle.std.specs.Prelude.{◌≡◌, ℕ, ◌+◌, ◌*◌, ◌%◌, ◌<◌, ◌≤◌, Bool, true, false, not, ◌||◌, List, [], ◌∷◌, ◌++◌, length, slice_index, is_some, Some, None, ◌==◌}
+use Rattle.parcels.specs.Numbers.{four_bytes, eight_bytes, all_below, call_values, most_amount, most_parcels, most_sum, keys_of_an_office}
+use Rattle.parcels.specs.Book.{pick, origin, Book, has, own, with_own, each_once, accepted, collected, paid_out}
 use Rattle.parcels.specs.Calls.{Limits, turned, after, answered}
 use Rattle.parcels.specs.declared.Kind.{Kind}
 use Rattle.parcels.specs.declared.Kind.TheVariants.{Accepted, SentOn, ComeIn, HandedOut}
@@ -42,14 +42,41 @@ most_step SentOn = four_bytes + 1
 most_step ComeIn = four_bytes
 most_step HandedOut = four_bytes + 1
 
+-- what is so of each parcel that a book has
+abbrev pub Each : (Entry → Type 0) → Book → Type 0
+Each P b = (key : ℕ) → has b key ≡ true → P (own b key)
+
+-- an entry's step goes no further than steps of its kind
+abbrev pub StepFits : Entry → Type 0
+StepFits e = e.step ≤ most_step e.kind
+
 -- no step in a book goes further
 abbrev pub StepsFit : Book → Type 0
-StepsFit b = (key : ℕ) → has b key ≡ true → (own b key).step ≤ most_step (own b key).kind
+StepsFit = Each StepFits
 
 -- none ever does: an empty book has no step, and a call whose values four bytes hold leaves none that goes further
 pub record StepsStayFit : Type 0 where
   pub empty : StepsFit []
   pub call : (l : Limits) (o : ℕ) (b : Book) (c : Call) → all_below four_bytes (call_values c) ≡ true → StepsFit b → StepsFit (after l o b c)
+
+-- an entry's amount is at most the largest
+abbrev pub AmountFits : Entry → Type 0
+AmountFits e = e.amount ≤ most_amount
+
+-- no amount in a book is above the largest
+abbrev pub AmountsFit : Book → Type 0
+AmountsFit = Each AmountFits
+
+-- No call leaves an amount above the largest, nor a parcel with two entries. So a sum, of what was collected at an office or of
+-- what was paid out, is at most the largest amount for each parcel. There is a book of this kind in which both are the largest
+-- sum (whether calls lead to it isn't said): four bytes are too few for it, and eight are enough for all.
+pub record SumsStayFit : Type 0 where
+  pub empty : (AmountsFit []) × (each_once [] ≡ true)
+  pub call : (l : Limits) (o : ℕ) (b : Book) (c : Call) → AmountsFit b → each_once b ≡ true → (AmountsFit (after l o b c)) × (each_once (after l o b c) ≡ true)
+  pub sums : (b : Book) → AmountsFit b → each_once b ≡ true → (collected b ≤ most_amount * length b) × (paid_out b ≤ most_amount * length b)
+  pub most : (b : Book) → AmountsFit b → each_once b ≡ true → length b ≤ most_parcels → (collected b ≤ most_sum) × (paid_out b ≤ most_sum)
+  pub largest : (b : Book) × AmountsFit b × (each_once b ≡ true) × (length b ≡ most_parcels) × (collected b ≡ most_sum) × (paid_out b ≡ most_sum)
+  pub bytes : (four_bytes ≤ most_sum) × (most_sum < eight_bytes)
 
 -- each of the office's own keys in its book is among its first ones, as many as the book has of them: those are the keys
 -- that it gave out

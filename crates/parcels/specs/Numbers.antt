@@ -1,6 +1,6 @@
 -- The numbers by which calls, kinds of step, reasons and answers are known outside, the values that calls and
 -- answers carry, and the limits.
-use Rattle.std.specs.Prelude.{◌≡◌, ℕ, Bool, true, ◌&&◌, List, [], ◌∷◌, Ok, Err, Result, ◌≢◌, nat_lt}
+use Rattle.std.specs.Prelude.{◌≡◌, ℕ, ◌*◌, Bool, true, ◌&&◌, List, [], ◌∷◌, Ok, Err, Result, ◌≢◌, nat_lt}
 use Rattle.parcels.specs.declared.Kind.{Kind}
 use Rattle.parcels.specs.declared.Kind.TheVariants.{Accepted, SentOn, ComeIn, HandedOut}
 use Rattle.parcels.specs.declared.Step.{Step}
@@ -29,6 +29,10 @@ most_parcels = 65536
 -- the largest amount to be collected for a parcel
 abbrev pub most_amount : ℕ
 most_amount = 1000000
+
+-- the largest sum of amounts: the largest one for each of as many parcels
+abbrev pub most_sum : ℕ
+most_sum = most_amount * most_parcels
 
 -- a key is this many times the number of the office that accepted the parcel, plus how many it accepted before
 abbrev pub keys_of_an_office : ℕ

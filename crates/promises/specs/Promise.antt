@@ -1,9 +1,10 @@
 -- What is promised. Each is a statement, a type: a function whose contract names it owes the proof.
 use Rattle.std.specs.Prelude.{◌≡◌, ℕ, zero, suc, ◌+◌, ◌-◌, ◌*◌, ◌<◌, ◌≤◌, Bool, true, false, ◌&&◌, ◌||◌, ◌⊎◌, List, [], ◌∷◌, ◌++◌, length, Some, None, Ok, Err, Option, ◌==◌, nat_le, nat_lt, slice_index, slice_index_or}
-use Rattle.parcels.specs.Numbers.{fewest_offices, most_offices, most_parcels, four_bytes, letter_bytes, all_below, words_a_parcel, words_more}
-use Rattle.parcels.specs.Book.{pick, origin, Book, has, own, is_here, was_handed_out, collected, paid_out}
+use Rattle.parcels.specs.Numbers.{fewest_offices, most_offices, most_parcels, most_sum, four_bytes, letter_bytes, all_below, words_a_parcel, words_more}
+use Rattle.parcels.specs.Book.{pick, origin, Book, has, own, is_here, was_handed_out, each_once, first_here, collected, paid_out}
 use Rattle.parcels.specs.Calls.{Stage, Limits, turned, place, answered, unreadable, not_refused, needs_news}
-use Rattle.parcels.specs.Laws.{StepsFit, key_told, brings_known_key}
+use Rattle.parcels.specs.Laws.{StepsFit, AmountsFit, key_told, brings_known_key}
+use Rattle.parcels.specs.Shelf.{FirstTold, asked_on, ShelfListed}
 use Rattle.parcels.specs.declared.Kind.{Kind}
 use Rattle.parcels.specs.declared.Kind.TheVariants.{Accepted, SentOn, ComeIn, HandedOut}
 use Rattle.parcels.specs.declared.Step.{Step}
@@ -260,8 +261,8 @@ OldLetters can f =
 -- 7 and 8, that a slip works once and that a call that is turned away changes no book, speak of one book and
 -- one call: they stand with the laws of books, SlipOnce and TurnedAway. SlipSpent, below, is more than 7: of all calls.
 
--- BESIDE THE EIGHT: that what offices live through happened; which keys are given out, how far steps go, and which slips
--- are spent, by what was taken everywhere.
+-- BESIDE THE EIGHT: that what offices live through happened; which keys are given out, how far steps go, which slips are
+-- spent, and what can be told of sums and of what is at an office, by what was taken everywhere.
 
 -- what offices live through happened: so what is true of all that happened is true of theirs
 abbrev pub LivedHappened : Stage → Office → Type 0
@@ -284,13 +285,15 @@ IsKeyTold o key (x ∷ xs) = ((x.at ≡ o) × (row_key_told x.reading x.answer �
 
 -- no key was given out twice, whether at one office or at two; each that was tells the office that gave it out, and is of a
 -- parcel in that one's book; the key of each slip which was given out is of a parcel in the book of the office that it
--- tells; so a call with such a slip, at whatever office, brings no key which that office has yet to give out
+-- tells; so a call with such a slip, at whatever office, brings no key which that office has yet to give out; and each key in
+-- a book tells an office that is there
 pub record KeysTold (l : Limits) (xs : List Said) : Type 0 where
   pub once : (i j : ℕ) → i < length (keys_told xs) → j < length (keys_told xs) → slice_index (keys_told xs) i ≡ slice_index (keys_told xs) j → i ≡ j
   pub ours : (o key : ℕ) → IsKeyTold o key xs → origin key ≡ o
   pub kept : (i : ℕ) → i < length (keys_told xs) → has (truth l xs (origin (slice_index (keys_told xs) i))) (slice_index (keys_told xs) i) ≡ true
   pub slips : (s : Slip) → IsGiven s xs → has (truth l xs (origin s.key)) s.key ≡ true
   pub next : (o : ℕ) (c : Call) → IsSlipKnown c xs → brings_known_key o (truth l xs o) c ≡ true
+  pub offices : (o key : ℕ) → has (truth l xs o) key ≡ true → origin key < l.offices
 
 -- that is so whatever happened: no two parcels that were accepted get one key
 abbrev pub NoKeyTwice : Type 0
@@ -315,3 +318,19 @@ abbrev pub SlipSpent : Type 0
 SlipSpent =
     (can : Stage) (l : Limits) (xs : List Said) (o : ℕ) (s : Slip) → GoodLimits can l → Happened l xs → IsTakenIn s xs →
     turned l o (truth l xs o) (TakeIn s) ≡ Some WrongSlip
+
+-- A book has one entry for each parcel, at most 65,536 of them, and no amount above the largest. So eight bytes of an answer
+-- hold each sum, and what is told of the parcels at the office is right: which is the first one from a key on, and all of them,
+-- where one asks on. And one can: what was answered fits a call's field, however often one asked.
+pub record ShelfAndSums (b : Book) : Type 0 where
+  pub once : each_once b ≡ true
+  pub few : length b ≤ most_parcels
+  pub amounts : AmountsFit b
+  pub sums : (collected b ≤ most_sum) × (paid_out b ≤ most_sum)
+  pub first : (from : ℕ) → FirstTold b from (first_here b from)
+  pub listed : ShelfListed b
+  pub can_ask : (n : ℕ) → asked_on b n < four_bytes
+
+-- that is so of each office's book, whatever happened
+abbrev pub ShelvesAndSums : Type 0
+ShelvesAndSums = (can : Stage) (l : Limits) (xs : List Said) (o : ℕ) → GoodLimits can l → Happened l xs → ShelfAndSums (truth l xs o)

@@ -33,7 +33,7 @@ told_taken o b Sums = refl
 
 -- so it was taken just where it changes the book
 taken_call : (l : Limits) (o : ℕ) (b : Book) (c : Call) → pick (not_refused (answered l o b c)) (after l o b c) b ≡ after l o b c
-taken_call l o b c = if_taken l o b c (λ x a. pick (not_refused a) x b ≡ x) (λ _. refl) (λ _. rw (told_taken o b c))
+taken_call l o b c = if_taken l o b c (λ x a. pick (not_refused a) x b ≡ x) (λ _. refl) (λ _ _. rw (told_taken o b c))
 
 -- by what an office answered, the book goes on in truth as its own does
 goes_on : (l : Limits) (o : ℕ) (b : Book) (r : Reading) (a : Answer) → a ≡ reply l o b r → book_then l o b r a ≡ book_after l o b r

@@ -5,10 +5,11 @@ use Rattle.parcels.specs.Book.{pick, Book}
 use Rattle.parcels.specs.Calls.{Limits, after, not_refused}
 use Rattle.parcels.specs.declared.Call.{Call}
 use Rattle.parcels.specs.declared.Answer.{Answer}
+use Rattle.wire.specs.Layout.{readable}
 use Rattle.wire.specs.Calls.{Reading}
 use Rattle.promises.specs.Truth.{Taken, book_of}
-use Rattle.promises.specs.World.{Said, taken_by, taken}
-use Rattle.promises.specs.Promise.{truth}
+use Rattle.promises.specs.World.{Said, row_readable, taken_by, taken}
+use Rattle.promises.specs.Promise.{truth, Happened, nothing_yet, and_then}
 
 -- what was said, with one thing more
 abbrev pub and_said : ℕ → Reading → Answer → List Said → List Said
@@ -73,3 +74,13 @@ if_said l o b (Ok c) a P same new = go (not_refused a)
     go true = new c refl
     go false = same
 if_said l o b (Err e) a P same new = same
+
+-- what is so of the empty book, and stays so by each call whose values four bytes hold, is so of each book in truth
+pub each_book : {l : Limits} {xs : List Said} (P : Book → Type 0) → P [] → ((o : ℕ) (b : Book) (c : Call) → readable c ≡ true → P b → P (after l o b c)) → Happened l xs → (o : ℕ) → P (truth l xs o)
+unfolding taken book_of
+each_book P empty call nothing_yet o = empty
+each_book {l} P empty call (and_then {xs} q r a before in' fits known right) o =
+    let was : P (truth l xs q) = each_book P empty call before q in
+    each_truth l xs q r a (λ _ b. P b)
+    (if_said l q (truth l xs q) r a P was (λ c is. call q (truth l xs q) c (subst (λ x. row_readable x ≡ true) is fits) was))
+    (λ p _. each_book P empty call before p) o

@@ -1,10 +1,11 @@
 -- No key is given out twice, over all offices: what is so of all books together, and stays so whatever is said.
-use Rattle.std.proofs.Common.{◌≡◌, ℕ, zero, suc, ◌<◌, ◌≤◌, true, false, not, ◌||◌, ◌⊎◌, eqb, eqb-true, inl, inr, List, [], ◌∷◌, ◌++◌, length, Ok, slice_index, refl, sym, ap, ◌∙◌, subst, arith}
+use Rattle.std.proofs.Common.{◌≡◌, ℕ, zero, suc, ◌<◌, ◌≤◌, true, false, not, ◌||◌, ◌⊎◌, eqb, ltb, eqb-true, inl, inr, List, [], ◌∷◌, ◌++◌, length, Ok, slice_index, refl, sym, ap, ◌∙◌, subst, arith}
 use Rattle.std.proofs.lemmas.Bool.{cases_Bool, or_left, or_right}
+use Rattle.std.proofs.lemmas.Bool.Decides.{nat_tests}
 use Rattle.parcels.specs.Numbers.{most_parcels}
 use Rattle.parcels.specs.Book.{Book, origin, has, has_room}
 use Rattle.parcels.specs.Calls.{Limits, new_key}
-use Rattle.parcels.specs.Laws.{brings_known_key, ByCalls, opened, called}
+use Rattle.parcels.specs.Laws.{brings_known_key, ByCalls, opened, called, GivenOnce}
 use Rattle.parcels.specs.declared.Slip.{Slip}
 use Rattle.parcels.specs.declared.Call.{Call}
 use Rattle.parcels.specs.declared.Call.TheVariants.{Accept, Send, SlipAgain, TakeIn, HandOut, Pay, WhereIs, Here, Sums}
@@ -15,7 +16,7 @@ use Rattle.promises.specs.World.{Said, IsGiven, IsSlipKnown, IsRowKnown, taken}
 use Rattle.promises.specs.Promise.{truth, RightRow, Happened, nothing_yet, and_then, keys_told, IsKeyTold, NoKeyTwice}
 use Rattle.laws.proofs.Did.{call_keeps}
 use Rattle.laws.proofs.Keys.{accepted_small, new_parts, new_unused, keys_once}
-use Rattle.truths.proofs.Books.{and_said, book_then, truth_here, each_truth, if_said}
+use Rattle.truths.proofs.Books.{and_said, book_then, truth_here, truth_elsewhere, each_truth, if_said}
 use Rattle.truths.proofs.Parcels.{AllKeys, call_brings, GivesKey, none, one, gives_key}
 use Rattle.truths.proofs.Slips.{slip_known, slip_given}
 
@@ -28,8 +29,8 @@ abbrev Once : List ℕ → Type 0
 Once keys = (i j : ℕ) → i < length keys → j < length keys → slice_index keys i ≡ slice_index keys j → i ≡ j
 
 -- something is so of each key in a list
-abbrev Each : (ℕ → Type 0) → List ℕ → Type 0
-Each K keys = (i : ℕ) → i < length keys → K (slice_index keys i)
+abbrev EachKey : (ℕ → Type 0) → List ℕ → Type 0
+EachKey K keys = (i : ℕ) → i < length keys → K (slice_index keys i)
 
 -- what is so of all books together: a parcel that stands in some book stands in that of the office that its key tells; each
 -- book came about by calls that brought no key which the office had yet to give out; and of what was answered
@@ -38,7 +39,7 @@ record Kept (l : Limits) (xs : List Said) : Type 0 where
   calls : (q : ℕ) → (keys : List ℕ) × ByCalls l q keys (truth l xs q)
   once : Once (keys_told xs)
   ours : (q key : ℕ) → IsKeyTold q key xs → origin key ≡ q
-  kept : Each (AtHome l xs) (keys_told xs)
+  kept : EachKey (AtHome l xs) (keys_told xs)
   slips : (s : Slip) → IsGiven s xs → AtHome l xs s.key
 
 -- a key, if it is of this office, is of a parcel in its book
@@ -61,23 +62,27 @@ brings l xs o (WhereIs key) slips known = refl
 brings l xs o (Here from) slips known = refl
 brings l xs o Sums slips known = refl
 
-each_more : (K : ℕ → Type 0) (key : ℕ) (keys : List ℕ) → K key → Each K keys → Each K (key ∷ keys)
+each_more : (K : ℕ → Type 0) (key : ℕ) (keys : List ℕ) → K key → EachKey K keys → EachKey K (key ∷ keys)
 each_more K key keys new old zero h = new
 each_more K key keys new old (suc i) h = old i (omega arith)
 
 -- one key more, which is none of the others
-once_more : (key : ℕ) (keys : List ℕ) → Each (λ k. k ≡ key → ⊥) keys → Once keys → Once (key ∷ keys)
+once_more : (key : ℕ) (keys : List ℕ) → EachKey (λ k. k ≡ key → ⊥) keys → Once keys → Once (key ∷ keys)
 once_more key keys new old zero zero h k e = refl
 once_more key keys new old zero (suc j) h k e = absurd (new j (omega arith) (sym e))
 once_more key keys new old (suc i) zero h k e = absurd (new i (omega arith) e)
 once_more key keys new old (suc i) (suc j) h k e = ap suc (old i j (omega arith) (omega arith) e)
 
+-- so each book is as one office's own calls leave it
+by_calls : (l : Limits) (xs : List Said) (o : ℕ) → l.parcels ≤ most_parcels → Kept l xs → (keys : List ℕ) × GivenOnce l o keys (truth l xs o)
+by_calls l xs o limit was = let (keys, by) = was.calls o in (keys, keys_once.at_one l o keys (truth l xs o) by limit)
+
 -- no parcel in an office's book has the next new key
 unused : (l : Limits) (xs : List Said) (o : ℕ) → l.parcels ≤ most_parcels → Kept l xs → has_room l.parcels (truth l xs o) ≡ true → has (truth l xs o) (new_key o (truth l xs o)) ≡ false
 unused l xs o limit was room =
     let b : Book = truth l xs o in
-    let (keys, by) = was.calls o in
-    new_unused o (new_key o b) b refl (accepted_small o l.parcels b room limit) (keys_once.at_one l o keys b by limit).in_order
+    let (keys, given) = by_calls l xs o limit was in
+    new_unused o (new_key o b) b refl (accepted_small o l.parcels b room limit) given.in_order
 
 -- it stays so, as an office gives a right answer to what was handed to it
 module _ (l : Limits) (xs : List Said) (o : ℕ) (r : Reading) (a : Answer) (limit : l.parcels ≤ most_parcels) (known : IsRowKnown r xs) (right : RightRow l xs o r a) (was : Kept l xs) where
@@ -130,10 +135,10 @@ module _ (l : Limits) (xs : List Said) (o : ℕ) (r : Reading) (a : Answer) (lim
   slips_more s (inl e) = home_still s.key (was.home o s.key (slip_known (truth l xs o) s (slip_given l xs o r s (subst (λ x. RightRow l xs o r x) e right))))
   slips_more s (inr given) = home_still s.key (was.slips s given)
 
-  kept_still : Each (AtHome l (and_said o r a xs)) (keys_told xs)
+  kept_still : EachKey (AtHome l (and_said o r a xs)) (keys_told xs)
   kept_still i h = home_still (slice_index (keys_told xs) i) (was.kept i h)
 
-  kept_new : {keys : List ℕ} → GivesKey l o (truth l xs o) (book_then l o (truth l xs o) r a) keys → Each (AtHome l (and_said o r a xs)) (keys ++ keys_told xs)
+  kept_new : {keys : List ℕ} → GivesKey l o (truth l xs o) (book_then l o (truth l xs o) r a) keys → EachKey (AtHome l (and_said o r a xs)) (keys ++ keys_told xs)
   kept_new none = kept_still
   kept_new (one room there) = each_more (AtHome l (and_said o r a xs)) (new_key o (truth l xs o)) (keys_told xs) (home_here (new_key o (truth l xs o)) there (inr (new_ours room))) kept_still
 
@@ -189,7 +194,29 @@ kept {l} limit (and_then {xs} o r a before in' fits known right) = kept_more l x
 pub new_key_free : {l : Limits} {xs : List Said} → l.parcels ≤ most_parcels → Happened l xs → (o : ℕ) → has_room l.parcels (truth l xs o) ≡ true → has (truth l xs o) (new_key o (truth l xs o)) ≡ false
 new_key_free {l} {xs} limit h o = unused l xs o limit (kept limit h)
 
+-- and no book has more parcels than the limit
+pub few_parcels : {l : Limits} {xs : List Said} → l.parcels ≤ most_parcels → Happened l xs → (o : ℕ) → length (truth l xs o) ≤ l.parcels
+few_parcels {l} {xs} limit h o = (by_calls l xs o limit (kept limit h)).1.few
+
+-- the book of an office that is not there stays empty
+none_there : {l : Limits} {xs : List Said} → Happened l xs → (o : ℕ) → l.offices ≤ o → truth l xs o ≡ []
+unfolding taken book_of
+none_there nothing_yet o far = refl
+none_there {l} (and_then {xs} q r a before in' fits known right) o far = truth_elsewhere l xs o q r a (grind (arith, nat_tests)) ∙ none_there before o far
+
+-- so each key tells one that is there, since the parcel stands in that one's book
+pub origins : {l : Limits} {xs : List Said} → l.parcels ≤ most_parcels → Happened l xs → (o : ℕ) → AllKeys (λ key. origin key < l.offices) (truth l xs o)
+unfolding has
+origins {l} {xs} limit h o key there =
+    elim (cases_Bool (ltb (origin key) l.offices)) [
+      | inl low ↦ grind (arith, nat_tests)
+      | inr high ↦
+          let empty : truth l xs (origin key) ≡ [] = none_there h (origin key) (grind (arith, nat_tests)) in
+          let home : AtHome l xs key = (kept limit h).home o key there in
+          absurd (cc)
+    ]
+
 pub no_key_twice : NoKeyTwice
 no_key_twice can l xs g h =
     let k : Kept l xs = kept g.2 h in
-    record { once = k.once; ours = k.ours; kept = k.kept; slips = k.slips; next = λ o c. brings l xs o c k.slips }
+    record { once = k.once; ours = k.ours; kept = k.kept; slips = k.slips; next = λ o c. brings l xs o c k.slips; offices = origins g.2 h }

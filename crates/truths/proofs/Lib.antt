@@ -4,3 +4,4 @@ pub mod Slips
 pub mod Keys
 pub mod Steps
 pub mod Spent
+pub mod Shelves

@@ -32,9 +32,9 @@ module _ (K : ℕ → Type 0) (b : Book) (old : AllKeys K b) where
 
   brings : (l : Limits) (o : ℕ) {c : Call} {keys : List ℕ} {b' : Book} → Did l o b c keys b' → (has_room l.parcels b ≡ true → K (new_key o b)) → ((s : Slip) → c ≡ TakeIn s → K s.key) → AllKeys K b'
   brings l o nothing new slip = old
-  brings l o (accepts dest amount room) new slip = put (accepted_entry o (new_key o b) dest amount) (new room)
-  brings l o (comes s paid works room) new slip = put (came_entry o s paid) (slip s refl)
-  brings l o (leaves key e there here is step most) new slip = put e (subst K (sym is) (old key there))
+  brings l o (accepts dest amount room _) new slip = put (accepted_entry o (new_key o b) dest amount) (new room)
+  brings l o (comes s paid works room _) new slip = put (came_entry o s paid) (slip s refl)
+  brings l o (leaves key e there here is step most _) new slip = put e (subst K (sym is) (old key there))
   brings l o (pays key there) new slip = put (paid_entry key (own b key)) (old key there)
 
   -- what is so of each key in a book, of the one that a slip brings, and of the next new one, is so of each key after a call
@@ -51,7 +51,7 @@ accept_told : (l : Limits) (o : ℕ) (b : Book) (dest amount : ℕ) → let a : 
 unfolding checked changed told
 accept_told l o b dest amount =
     if_taken l o b (Accept dest amount) (λ x a. GivesKey l o b (pick (not_refused a) x b) (number_in a)) (λ _. none)
-    (λ free. one (passed (has_room l.parcels b) None OverLimit free).0 (has_new b (accepted_entry o (new_key o b) dest amount)))
+    (λ _ free. one (passed (has_room l.parcels b) None OverLimit free).0 (has_new b (accepted_entry o (new_key o b) dest amount)))
 
 -- so it is with each right answer
 pub gives_key : (l : Limits) (xs : List Said) (o : ℕ) (r : Reading) (a : Answer) → RightRow l xs o r a → GivesKey l o (truth l xs o) (book_then l o (truth l xs o) r a) (row_key_told r a)

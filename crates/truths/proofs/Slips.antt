@@ -41,7 +41,7 @@ slip_told l o b (Here from) s free is = absurd (cc)
 slip_told l o b Sums s free is = absurd (cc)
 
 slip_answered : (l : Limits) (o : ℕ) (b : Book) (c : Call) (s : Slip) → Given s ≡ answered l o b c → SlipOf b s
-slip_answered l o b c s = if_taken l o b c (λ _ a. Given s ≡ a → SlipOf b s) (λ r is. absurd (cc)) (slip_told l o b c s)
+slip_answered l o b c s = if_taken l o b c (λ _ a. Given s ≡ a → SlipOf b s) (λ r is. absurd (cc)) (λ _. slip_told l o b c s)
 
 -- so it is with each slip that is a right answer, and the book in truth
 pub slip_given : (l : Limits) (xs : List Said) (o : ℕ) (r : Reading) (s : Slip) → RightRow l xs o r (Given s) → SlipOf (truth l xs o) s

@@ -24,7 +24,7 @@ in_by_call : (l : Limits) (o : ℕ) (b : Book) (s : Slip) → let a : Answer = a
 unfolding checked changed told
 in_by_call l o b s =
     if_taken l o b (TakeIn s) (λ x a. not_refused a ≡ true → UsedUp o (pick (not_refused a) x b) s) (λ r good. absurd (cc))
-    (λ free _.
+    (λ _ free _.
     let works : slip_works o b s ≡ true = (passed (slip_works o b s) (pick (has b s.key || has_room l.parcels b) None (Some OverLimit)) WrongSlip free).0 in
     (used_up o b s (has b s.key && (own b s.key).paid), eqb-true s.to o (and_parts (eqb s.to o) _ works).0))
 

@@ -1,5 +1,5 @@
 -- How far steps go, in each office's book in truth and in slips that were given out.
-use Rattle.std.proofs.Common.{◌≡◌, ℕ, ◌+◌, ◌≤◌, true, List, subst, inl, inr, arith}
+use Rattle.std.proofs.Common.{ℕ, ◌+◌, ◌≤◌, List, subst, inl, inr, arith}
 use Rattle.parcels.specs.Numbers.{four_bytes}
 use Rattle.parcels.specs.Book.{Book, own}
 use Rattle.parcels.specs.Calls.{Limits}
@@ -7,24 +7,14 @@ use Rattle.parcels.specs.Laws.{most_step, StepsFit}
 use Rattle.parcels.specs.declared.Kind.{Kind}
 use Rattle.parcels.specs.declared.Kind.TheVariants.{Accepted, SentOn, ComeIn, HandedOut}
 use Rattle.parcels.specs.declared.Slip.{Slip}
-use Rattle.parcels.specs.declared.Answer.{Answer}
-use Rattle.wire.specs.Calls.{Reading}
-use Rattle.promises.specs.Truth.{book_of}
-use Rattle.promises.specs.World.{Said, IsGiven, row_readable, taken}
+use Rattle.promises.specs.World.{Said, IsGiven}
 use Rattle.promises.specs.Promise.{truth, RightRow, Happened, nothing_yet, and_then, SlipsFit}
 use Rattle.laws.proofs.Steps.{here_low, stay_fit}
-use Rattle.truths.proofs.Books.{book_then, each_truth, if_said}
+use Rattle.truths.proofs.Books.{each_book}
 use Rattle.truths.proofs.Slips.{SlipOf, sent_now, sent_before, slip_given}
 
--- a row of bytes leaves no step in a book that goes further than steps go
-row_fits : (l : Limits) (o : ℕ) (b : Book) (r : Reading) (a : Answer) → row_readable r ≡ true → StepsFit b → StepsFit (book_then l o b r a)
-row_fits l o b r a fits low = if_said l o b r a StepsFit low (λ c is. stay_fit.call l o b c (subst (λ x. row_readable x ≡ true) is fits) low)
-
 steps_fit : {l : Limits} {xs : List Said} → Happened l xs → (o : ℕ) → StepsFit (truth l xs o)
-unfolding taken book_of
-steps_fit nothing_yet o = stay_fit.empty
-steps_fit {l} (and_then {xs} q r a before in' fits known right) o =
-    each_truth l xs q r a (λ p b. StepsFit b) (row_fits l q (truth l xs q) r a fits (steps_fit before q)) (λ p other. steps_fit before p) o
+steps_fit {l} = each_book StepsFit stay_fit.empty (stay_fit.call l)
 
 -- how far steps of all kinds go
 most_at_all : (k : Kind) → most_step k ≤ four_bytes + 1
