@@ -4,8 +4,10 @@
 ghost use Rattle.std.specs.Prelude.{◌≡◌, ◌≤◌, true, length, MatchOption, is_ok, IsErr};
 ghost use Rattle.parcels.specs.Book.{each_once, has_room, accepted};
 ghost use Rattle.parcels.specs.Laws.{StepFits, StepsFit};
+ghost use Rattle.parcels.specs.Shelf.{FirstTold, ShelfListed};
 ghost use Rattle.parcels.specs.Calls.{new_key};
 ghost use Rattle.rows.specs.Layout.{book_at};
+ghost use Rattle.tally.specs.Told.{next_from, ShelfOf, SumsOf};
 ghost use Rattle.book.specs.Search.{RowOf};
 ghost use Rattle.book.specs.Sound.{Sound};
 ghost use Rattle.book.specs.Ready.{Ready};
@@ -16,6 +18,7 @@ use key::KeyParts;
 use opening::Opening;
 use parcels::Entry;
 use rows::{Link, read_entry, read_head};
+use tally::{Shelf, Sums};
 use tree::{ROOT, add, change, seek};
 
 pub mod key;
@@ -116,6 +119,22 @@ impl<'a> Book<'a> {
     {
         let row = self.row_of(key).ok()?;
         Some(read_entry(self.memory, row))
+    }
+
+    // What is here: how many parcels, and the first of them from a key on.
+    pub fn here(&self, from: u32) -> Shelf
+        ensures value { ShelfOf (book_in self.now) from result }
+        ensures first { FirstTold (book_in self.now) from (next_from result.first) }
+        ensures listed { ShelfListed (book_in self.now) }
+    {
+        Shelf::of(self.memory, from)
+    }
+
+    // What was collected here, and paid out.
+    pub fn sums(&self) -> Sums
+        ensures { SumsOf (book_in self.now) result }
+    {
+        Sums::of(self.memory)
     }
 
     // Puts in an entry: in place of the one with its key, or, where there is none and room for one more, behind the

@@ -1,6 +1,6 @@
 // A book in lent memory, and what the tests put into it.
 ghost use Rattle.std.specs.Prelude.{◌≡◌, ◌≤◌};
-ghost use Rattle.parcels.specs.Laws.{most_step};
+ghost use Rattle.parcels.specs.Laws.{StepFits};
 
 use book::Book;
 use book::opening::Opening;
@@ -30,7 +30,7 @@ pub(crate) fn empty_book<'a>(rt: &impl Abort, opening: Opening, memory: &'a mut 
 // What is put in of a parcel: no two parcels have the same office or amount, nor, but for those that were accepted, the same
 // step. That of the last key is as large as a step can be, and wider than a word.
 pub(crate) fn entry(key: u32) -> Entry
-    ensures { result.step ≤ most_step result.kind }
+    ensures { StepFits result }
 {
     let (kind, step) = match key % 4 {
         0 => (Kind::Accepted, 0),
@@ -51,7 +51,7 @@ pub(crate) fn entry(key: u32) -> Entry
 
 // Another entry of the same parcel: all but the key differs.
 pub(crate) fn changed(key: u32) -> Entry
-    ensures { result.step ≤ most_step result.kind }
+    ensures { StepFits result }
 {
     Entry { key, ..entry(!key) }
 }

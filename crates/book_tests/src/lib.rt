@@ -1,4 +1,4 @@
-// An office's book in lent memory: how it is opened, what is put in and found, and a full one.
+// An office's book in lent memory: how it is opened, what is put in and found, what is told of it, and a full one.
 #![tactic(auto)]
 
 #[cfg(test)]
@@ -11,3 +11,5 @@ mod lent;
 mod openings;
 #[cfg(test)]
 mod small;
+#[cfg(test)]
+mod told;

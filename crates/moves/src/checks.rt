@@ -58,7 +58,7 @@ pub(crate) fn parcel_here(book: &Book, key: u32) -> Option<Entry>
     ensures { result ≡ parcel_here (book_in book.now) key }
 {
     let entry = book.find(key)?;
-    matches!(entry.kind, Kind::Accepted | Kind::ComeIn).then_some(entry)
+    entry.kind.leaves_it_here().then_some(entry)
 }
 
 // What the book has of a parcel that was last sent on from here.

@@ -3,6 +3,7 @@
 
 ghost use Rattle.std.specs.Prelude.{◌≡◌};
 ghost use Rattle.parcels.specs.Numbers.{call_number, kind_number, reason_number, answer_number, ByNumber};
+ghost use Rattle.parcels.specs.Book.{leaves_it_here, was_handed_out};
 
 // What a step did with its parcel, with its number in answers and in memory.
 #[derive(Clone, Copy, Debug, PartialEq, Eq)]
@@ -96,6 +97,22 @@ pub enum Answer {
     At(Step),
     NothingHeard,
     Two(u64, u64),
+}
+
+impl Kind {
+    // Whether a parcel is at the office that made this its last step.
+    pub fn leaves_it_here(self) -> bool
+        ensures { result ≡ leaves_it_here self }
+    {
+        matches!(self, Kind::Accepted | Kind::ComeIn)
+    }
+
+    // Whether it was handed out there.
+    pub fn was_handed_out(self) -> bool
+        ensures { result ≡ was_handed_out self }
+    {
+        self == Kind::HandedOut
+    }
 }
 
 impl From<Kind> for u8 {
