@@ -43,7 +43,8 @@ pub fn shelves_are_listed()
     ensures { ShelvesListed }
 {}
 
-// One parcel's way, from the office that accepts it to the one that hands it out: one lemma computes all its answers.
+// One parcel's way, from the office that accepts it to the one that hands it out, and what is told then: one lemma computes
+// all answers.
 pub fn way_is_answered()
     ensures { WayIsAnswered }
 {}

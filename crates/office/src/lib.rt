@@ -76,6 +76,7 @@ fn answer(opening: Opening, memory: &mut [u32], row: &[u8]) -> Result<Answer, Re
 }
 
 // Does a call that was read from bytes.
+#[tactic(auto, unfolding(parcels::specs::Calls::good_fields, parcels::specs::Calls::checked, parcels::specs::Calls::told, parcels::specs::Calls::changed))]
 fn decide(opening: Opening, memory: &mut [u32], call: Call) -> Result<Answer, Refusal>
     requires read { readable call ≡ true }
     requires ready { Ready opening.own opening.parcels memory.old }
@@ -89,9 +90,9 @@ fn decide(opening: Opening, memory: &mut [u32], call: Call) -> Result<Answer, Re
         Call::SlipAgain { key } => Answer::Given(slip_again(&book, key)?),
         Call::TakeIn { slip } => Answer::Number(take_in(&mut book, slip)?.into()),
         Call::HandOut { key } => Answer::Number(hand_out(&mut book, key)?.into()),
+        Call::Here { from } => book.here(from).into(),
+        Call::Sums => book.sums().into(),
         // no other call can be done yet
-        Call::Pay { .. } | Call::WhereIs { .. } | Call::Here { .. } | Call::Sums => {
-            return Err(Reason::OutOfRange.into());
-        }
+        Call::Pay { .. } | Call::WhereIs { .. } => return Err(Reason::OutOfRange.into()),
     })
 }

@@ -1,4 +1,5 @@
 // An office in lent memory, and what it is asked.
+ghost use Rattle.std.specs.Prelude.{◌≡◌};
 ghost use Rattle.book.specs.Ready.{Ready};
 
 use book::opening::Opening;
@@ -12,8 +13,8 @@ pub(crate) const LENT: u32 = 0xeeee_eeee;
 
 pub(crate) const LENT_BYTE: u8 = 0xee;
 
-// How many words are lent: as many as three parcels ask for, and four more.
-pub(crate) const WORDS: usize = 100;
+// How many words are lent: as many as five parcels ask for, and four more.
+pub(crate) const WORDS: usize = 148;
 
 // A refusal as its numbers.
 pub(crate) fn numbers(e: Refusal) -> (u8, u64) {
@@ -64,4 +65,15 @@ impl Lent {
         assert!(rt; len <= MAX_CALL_BYTES);
         self.ask(rt, &row[..len])
     }
+}
+
+// The office answers a row of bytes by these.
+pub(crate) fn check_answer(rt: &impl Abort, office: &mut Office, row: &[u8], answer: &[u8])
+    ensures same_opening { office.new.opening ≡ office.old.opening }
+    ensures same_reference { office.new.memory.ghost_name ≡ office.old.memory.ghost_name }
+{
+    let mut out = [LENT_BYTE; 64];
+    assert_eq!(rt; office.call(row, &mut out), Some(answer.len()));
+    assert!(rt; answer.len() <= 64);
+    assert_eq!(rt; &out[..answer.len()], answer);
 }

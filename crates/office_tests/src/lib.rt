@@ -9,3 +9,5 @@ mod openings;
 mod refusals;
 #[cfg(test)]
 mod steps;
+#[cfg(test)]
+mod told;

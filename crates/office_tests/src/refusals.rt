@@ -95,8 +95,6 @@ fn calls(rt: HostRuntime) {
         (Call::HandOut { key: 65_536 }, (6, 0)),
         (Call::Pay { key: 65_538 }, (2, 0)),
         (Call::WhereIs { key: 65_536 }, (2, 0)),
-        (Call::Here { from: 0 }, (2, 0)),
-        (Call::Sums, (2, 0)),
     ] {
         let mut lent = before;
         check_refused(&rt, lent.call(&rt, call), refused);
@@ -134,6 +132,8 @@ fn no_calls(rt: HostRuntime) {
         (b"\x01\x00\x00\x01\x00\x02", 6),
         (b"\x02\x01\x00\x01", 4),
         (b"\x04\x00\x00\x01\x00\x00", 5),
+        (b"\x07\x00\x00\x01", 4),
+        (b"\x07\x00\x00\x01\x00\x00", 5),
         (b"\x08\x00", 1),
     ];
     for (row, place) in rows {
@@ -167,6 +167,8 @@ fn check_too_few<const BYTES: usize>(rt: &impl Abort)
         b"\x01\x00\x00\x01\x00\x02\x00\x00\x00",
         b"\x02\x01\x00\x01\x00",
         b"\x04\x00\x00\x01\x00",
+        b"\x05\x00\x00\x01\x00",
+        b"\x07\x00\x00\x00\x00",
         b"\x08",
         b"",
     ];

@@ -1,10 +1,7 @@
 // Parcels' ways through an office, and what its memory keeps of them.
-ghost use Rattle.std.specs.Prelude.{◌≡◌};
-
-use crate::lent::{LENT, LENT_BYTE, Lent};
+use crate::lent::{LENT, Lent, check_answer};
 use office::Office;
 use parcels::{Answer, Call, Reason, Refusal, Slip};
-use std::process::Abort;
 
 // A slip with the largest step that a call can carry: the next steps are wider than a word.
 #[test]
@@ -68,17 +65,6 @@ fn accepted_and_handed_out(rt: HostRuntime) {
     );
 }
 
-// The office answers a row of bytes by these.
-fn check_answer(rt: &impl Abort, office: &mut Office, row: &[u8], answer: &[u8])
-    ensures same_opening { office.new.opening ≡ office.old.opening }
-    ensures same_reference { office.new.memory.ghost_name ≡ office.old.memory.ghost_name }
-{
-    let mut out = [LENT_BYTE; 64];
-    assert_eq!(rt; office.call(row, &mut out), Some(answer.len()));
-    assert!(rt; answer.len() <= 64);
-    assert_eq!(rt; &out[..answer.len()], answer);
-}
-
 // An office is left after two calls, and taken up again over its memory.
 #[test]
 fn taken_up_again(rt: HostRuntime) {
@@ -120,5 +106,5 @@ fn taken_up_again(rt: HostRuntime) {
         place: 0,
     };
     assert!(rt; lent.ask(&rt, accept) == Answer::Refused(refusal));
-    assert_eq!(rt; &lent.memory[96..], [LENT; 4].as_slice());
+    assert_eq!(rt; &lent.memory[96..], [LENT; 52].as_slice());
 }

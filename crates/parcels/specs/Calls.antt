@@ -17,11 +17,7 @@ use Rattle.parcels.specs.declared.Answer.TheVariants.{Refused, Number, Given, At
 abbrev pub Stage : Type 0
 Stage = ℕ → Bool
 
--- parcels move: accepting, sending on, a slip once more, taking in, handing out
-abbrev pub moving : Stage
-moving k = nat_lt k 5
-
--- the first stage, once it is whole: all but paying and where a parcel is
+-- the first stage: all but paying and where a parcel is
 abbrev pub thin : Stage
 thin k = nat_lt k 5 || (k == 7 || k == 8)
 
@@ -174,6 +170,18 @@ not_refused (Given slip) = true
 not_refused (At step) = true
 not_refused NothingHeard = true
 not_refused (Two m n) = true
+
+-- the calls that only tell: they change no book
+abbrev pub only_tells : Call → Bool
+only_tells (Accept dest amount) = false
+only_tells (Send key to) = false
+only_tells (SlipAgain key) = true
+only_tells (TakeIn s) = false
+only_tells (HandOut key) = false
+only_tells (Pay key) = false
+only_tells (WhereIs key) = true
+only_tells (Here from) = true
+only_tells Sums = true
 
 -- the calls whose answer also takes news from other offices
 abbrev pub needs_news : Call → Bool

@@ -1,13 +1,13 @@
 -- One parcel's way, as calls at three offices with a limit of 8 parcels.
 use Rattle.std.specs.Prelude.{◌≡◌, ℕ, List, [], ◌∷◌, ◌==◌}
 use Rattle.parcels.specs.Book.{pick, Book}
-use Rattle.parcels.specs.Calls.{Limits, moving, after, answered}
+use Rattle.parcels.specs.Calls.{Limits, thin, after, answered}
 use Rattle.parcels.specs.declared.Slip.{Slip}
 use Rattle.parcels.specs.declared.Call.{Call}
-use Rattle.parcels.specs.declared.Call.TheVariants.{Accept, Send, TakeIn, HandOut}
+use Rattle.parcels.specs.declared.Call.TheVariants.{Accept, Send, TakeIn, HandOut, Here, Sums}
 use Rattle.parcels.specs.declared.Reason.TheVariants.{NotHere, WrongSlip, OtherOffice}
 use Rattle.parcels.specs.declared.Answer.{Answer}
-use Rattle.parcels.specs.declared.Answer.TheVariants.{Refused, Number, Given}
+use Rattle.parcels.specs.declared.Answer.TheVariants.{Refused, Number, Given, Two}
 
 -- a call, and the office at which it is made
 pub record Made : Type 0 where
@@ -40,7 +40,11 @@ way =
     ∷ (record { at = 1; call = HandOut 0 }
     ∷ (record { at = 1; call = Send 0 2 }
     ∷ (record { at = 2; call = TakeIn second_slip }
-    ∷ (record { at = 2; call = HandOut 0 } ∷ [])))))))))
+    ∷ (record { at = 2; call = Here 0 }
+    ∷ (record { at = 2; call = HandOut 0 }
+    ∷ (record { at = 2; call = Here 0 }
+    ∷ (record { at = 2; call = Sums }
+    ∷ (record { at = 0; call = Sums } ∷ [])))))))))))))
 
 -- what they are answered
 abbrev pub way_answers : List Answer
@@ -54,8 +58,12 @@ way_answers =
     ∷ (Refused (record { reason = OtherOffice; place = 0 })
     ∷ (Given second_slip
     ∷ (Number 2
-    ∷ (Number 50 ∷ [])))))))))
+    ∷ (Two 1 1
+    ∷ (Number 50
+    ∷ (Two 0 0
+    ∷ (Two 50 0
+    ∷ (Two 0 0 ∷ [])))))))))))))
 
 -- these calls, from empty books on, are answered so
 abbrev pub WayIsAnswered : Type 0
-WayIsAnswered = answers (record { can = moving; offices = 3; parcels = 8 }) (λ o. []) way ≡ way_answers
+WayIsAnswered = answers (record { can = thin; offices = 3; parcels = 8 }) (λ o. []) way ≡ way_answers

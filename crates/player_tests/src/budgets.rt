@@ -15,15 +15,15 @@ fn each_thing_is_counted(rt: HostRuntime) -> Result<(), Fail> {
             ),
             (
                 b"3 offices, 8 parcels\nat 0: sums\nat 0: tick\nat 0: bytes 1\n",
-                "refused 2 at 0\nrefused 1 at 1\n",
+                "0 0\nrefused 1 at 1\n",
             ),
             (
                 b"3 offices, 8 parcels\nat 0: sums\nat 0: tick\nat 0: bytes 1\nat 0: sums\nat 0: sums\n",
-                "refused 2 at 0\nrefused 1 at 1\nstopped: more than 3 things happened\n(stopped)",
+                "0 0\nrefused 1 at 1\nstopped: more than 3 things happened\n(stopped)",
             ),
             (
                 b"3 offices, 8 parcels\nat 0: sums\nall clocks tick\nat 0: sums\n",
-                "refused 2 at 0\nstopped: more than 3 things happened\n(stopped)",
+                "0 0\nstopped: more than 3 things happened\n(stopped)",
             ),
             (
                 b"3 offices, 8 parcels\nall clocks tick\nletter 0 comes\n",

@@ -38,7 +38,11 @@ fn calls(rt: HostRuntime) -> Result<(), Fail> {
             ),
             (
                 b"3 offices, 8 parcels\nat 1: here from 0\nat 2: sums",
-                "refused 2 at 0\nrefused 2 at 0\n",
+                "0 0\n0 0\n",
+            ),
+            (
+                b"3 offices, 8 parcels\nat 1: accept for 1, 50\nat 1: here from 0\nat 1: hand out 65536\nat 1: here from 0\nat 1: sums",
+                "65536\n1 65537\n50\n0 0\n50 0\n",
             ),
             (
                 b"3 offices, 8 parcels\nat 2: tick\nall clocks tick\nall letters come\nall letters come, the last first",
@@ -61,7 +65,7 @@ fn rows_of_bytes(rt: HostRuntime) -> Result<(), Fail> {
             ),
             (
                 b"3 offices, 8 parcels\nat 2: bytes 8\nat 2: bytes 7 255 255 255 255\n",
-                "refused 2 at 0\nrefused 2 at 0\n",
+                "0 0\n0 0\n",
             ),
             (
                 b"3 offices, 8 parcels\nat 0: bytes\nat 0: bytes 9 0 0 0 0\nat 0: bytes 255\n",
@@ -120,7 +124,7 @@ fn what_cannot_happen(rt: HostRuntime) -> Result<(), Fail> {
         &[
             (
                 b"3 offices, 8 parcels\nat 2: sums\nat 3: sums\nat 0: sums",
-                "refused 2 at 0\nline 3: an office that is not there",
+                "0 0\nline 3: an office that is not there",
             ),
             (
                 b"3 offices, 8 parcels\nat 3: tick",
@@ -136,7 +140,7 @@ fn what_cannot_happen(rt: HostRuntime) -> Result<(), Fail> {
             ),
             (
                 b"3 offices, 8 parcels\nat 0: sums\nat 1: take in 0: 1 0 1 2 50\n",
-                "refused 2 at 0\nline 3: a slip that was never given out",
+                "0 0\nline 3: a slip that was never given out",
             ),
             (
                 b"3 offices, 8 parcels\nat 0: accept for 2, 50\nat 0: send 0 to 1\nat 1: take in 0: 1 0 1 2 51\n",

@@ -2,7 +2,7 @@
 use Rattle.std.proofs.Common.{◌≡◌, ℕ, suc, ◌<◌, ◌≤◌, true, false, List, [], ◌∷◌, length, Some, Ok, Err, slice_index, refl, sym, ap, ◌∙◌, subst, inr, arith, zero-le, lt-ltb}
 use Rattle.parcels.specs.Numbers.{all_below}
 use Rattle.parcels.specs.Book.{Book, origin}
-use Rattle.parcels.specs.Calls.{Limits, moving, turned, refusal, answered}
+use Rattle.parcels.specs.Calls.{Limits, thin, turned, refusal, answered}
 use Rattle.parcels.specs.declared.Reason.TheVariants.{OutOfRange}
 use Rattle.parcels.specs.declared.Call.{Call}
 use Rattle.parcels.specs.declared.Call.TheVariants.{Accept, Send, SlipAgain, TakeIn, HandOut, Pay, WhereIs, Here, Sums}
@@ -19,7 +19,7 @@ use Rattle.theorems.proofs.Happened.{none_changed, memory_kept, no_letter}
 use Rattle.theorems.proofs.Truth.{book_true_now}
 
 -- what is answered by a book that is the true one is right
-right_answer : (l : Limits) (xs : List Said) (o : ℕ) (c : Call) (a : Answer) → GoodLimits moving l → a ≡ answered l o (truth l xs o) c → RightAnswer l xs o c a
+right_answer : (l : Limits) (xs : List Said) (o : ℕ) (c : Call) (a : Answer) → GoodLimits thin l → a ≡ answered l o (truth l xs o) c → RightAnswer l xs o c a
 unfolding RightPay RightWhere
 right_answer l xs o (Accept dest amount) a g h = h
 right_answer l xs o (Send key to) a g h = h
@@ -33,34 +33,34 @@ right_answer l xs o (WhereIs key) a g h =
 right_answer l xs o (Here from) a g h = h
 right_answer l xs o Sums a g h = h
 
-right_row : (l : Limits) (xs : List Said) (o : ℕ) (r : Reading) (a : Answer) (b : Book) → GoodLimits moving l → b ≡ truth l xs o → a ≡ reply l o b r → RightRow l xs o r a
+right_row : (l : Limits) (xs : List Said) (o : ℕ) (r : Reading) (a : Answer) (b : Book) → GoodLimits thin l → b ≡ truth l xs o → a ≡ reply l o b r → RightRow l xs o r a
 right_row l xs o (Ok c) a b g is h = right_answer l xs o c a g (h ∙ ap (λ x. answered l o x c) is)
 right_row l xs o (Err e) a b g is h = h
 
 -- an answer that an office gives is right, where it is known that something happened, and not what
-pub right_now : (l : Limits) (w : World) (o : ℕ) (r : Reading) (a : Answer) (m : Memory) → GoodLimits moving l → ∥ Lived ours l w ∥₁ → o < l.offices → Done l o (w.memory o) r a m → RightRow l w.said o r a
+pub right_now : (l : Limits) (w : World) (o : ℕ) (r : Reading) (a : Answer) (m : Memory) → GoodLimits thin l → ∥ Lived ours l w ∥₁ → o < l.offices → Done l o (w.memory o) r a m → RightRow l w.said o r a
 right_now l w o r a m g v there done = right_row l w.said o r a (book_at (w.memory o)) g (book_true_now l w o v there) done.answer
 
-pub answers_right : Right moving ours
+pub answers_right : Right thin ours
 answers_right l w o r m a ls g v there fits known (done, _, _) = right_now l w o r a m g ∣ v ∣₁ there done
 
-pub refusal_keeps : RefusalKeeps moving ours
+pub refusal_keeps : RefusalKeeps thin ours
 refusal_keeps l w o r m a ls g v there fits known (done, _, none) turned = (done.same turned, none)
 
 -- where a parcel is can't be asked, and nothing is paid
-pub news_comes : NewsComes moving ours
+pub news_comes : NewsComes thin ours
 news_comes l w v p m a ls g x rounds some =
     let asked : l.can 6 ≡ false = g.3 6 in
     let paid : turned l (origin p) (truth l w.said (origin p)) (Pay p) ≡ Some OutOfRange = turned_away l (origin p) (truth l w.said (origin p)) (Pay p) (g.3 5) in
     (λ can _. absurd (cc), λ free _ _. absurd (cc))
 
-pub never_back : NeverBack moving ours
+pub never_back : NeverBack thin ours
 never_back l w o p s m ls g v there (done, _, _) =
     let turned : At s ≡ Refused (refusal (WhereIs p) OutOfRange) = refused l o (book_at (w.memory o)) (WhereIs p) (At s) (g.3 6) done.answer in
     absurd (cc)
 
 -- a letter changes no memory
-pub old_letters : OldLetters moving ours
+pub old_letters : OldLetters thin ours
 old_letters l w x o c m n n' ls ms ms' a a' g v sent to there own fits known (same, _) (d, _, _) (e, _, _) =
     e.answer ∙ ap (λ (k : Memory). answered l o (book_at k) c) (none_changed w.memory x.to m o same) ∙ sym d.answer
 
@@ -72,7 +72,7 @@ words_fit k (x ∷ xs) h = rw (lt-ltb x k (h 0)) (words_fit k xs (λ i. h (suc i
 none_at_most : (ls : List Letter) (n : ℕ) → ls ≡ [] → length ls ≤ n
 none_at_most ls n e = rw e zero-le
 
-pub stays_small : StaysSmall moving ours
+pub stays_small : StaysSmall thin ours
 unfolding short
 stays_small l w o g v there =
     let (size, words) = memory_kept v o there in (
@@ -84,7 +84,7 @@ stays_small l w o g v there =
       λ r n a ls k. none_at_most ls l.offices k.2,
     )
 
-pub lived_happened : LivedHappened moving ours
+pub lived_happened : LivedHappened thin ours
 lived_happened l w g (opened ms begins) = nothing_yet
 lived_happened l w g (called {w = u} o r m a ls v there fits known did) =
     and_then o r a (lived_happened l u g v) there fits known (answers_right l u o r m a ls g v there fits known did)

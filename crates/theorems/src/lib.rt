@@ -1,44 +1,44 @@
 // What is promised, for the office that runs, over everything that can happen at all offices. Each function
-// does nothing: its contract is the theorem, and its proof is what the check asks for. In this stage parcels
-// move; paying, where a parcel is, what is here and sums are turned away.
+// does nothing: its contract is the theorem, and its proof is what the check asks for. In this stage paying, and
+// where a parcel is, are turned away.
 #![tactic(auto)]
 
-ghost use Rattle.parcels.specs.Calls.{moving};
+ghost use Rattle.parcels.specs.Calls.{thin};
 ghost use Rattle.promises.specs.Promise.{Right, RefusalKeeps, NewsComes, StaysSmall, NeverBack, OldLetters, LivedHappened};
 ghost use Rattle.theorems.specs.Ours.{ours};
 
 // Each answer is right, whatever happened before.
 pub fn answers_are_right()
-    ensures { Right moving ours }
+    ensures { Right thin ours }
 {}
 
 // A call that is turned away changes nothing and sends nothing.
 pub fn refusals_keep()
-    ensures { RefusalKeeps moving ours }
+    ensures { RefusalKeeps thin ours }
 {}
 
 // News comes, even if all letters until now are lost. No office sends any yet: in this stage both calls whose
 // answers would take it are turned away.
 pub fn news_comes()
-    ensures { NewsComes moving ours }
+    ensures { NewsComes thin ours }
 {}
 
 // Memory and letters stay small.
 pub fn stays_small()
-    ensures { StaysSmall moving ours }
+    ensures { StaysSmall thin ours }
 {}
 
 // What an office tells of a parcel never goes back: in this stage it tells nothing.
 pub fn never_back()
-    ensures { NeverBack moving ours }
+    ensures { NeverBack thin ours }
 {}
 
 // A letter that comes again, or late, changes no answer that an office can give by itself.
 pub fn old_letters_change_nothing()
-    ensures { OldLetters moving ours }
+    ensures { OldLetters thin ours }
 {}
 
 // What offices live through happened: so what is true of all that happened (crate truths) is true of theirs.
 pub fn what_is_lived_happened()
-    ensures { LivedHappened moving ours }
+    ensures { LivedHappened thin ours }
 {}

@@ -2,7 +2,7 @@
 use Rattle.std.proofs.Common.{◌≡◌, ℕ, ◌<◌, true, List, [], ◌∷◌, ◌++◌, length, get_or, set, refl, sym, ap, ◌∙◌, subst, arith, Ok}
 use Rattle.std.proofs.lemmas.Bool.Decides.{nat_tests}
 use mathlib.Core.Logic.{∥∥₁_map}
-use Rattle.parcels.specs.Calls.{moving}
+use Rattle.parcels.specs.Calls.{thin}
 use Rattle.parcels.specs.declared.Answer.{Answer}
 use Rattle.wire.specs.Calls.{Reading, Reads}
 use Rattle.book.specs.Opening.{in_range}
@@ -48,7 +48,7 @@ pub right : (n p o : ℕ) (ss : List Station) (xs : List Exchange) (r : Reading)
     ∥ Lived ours (stage_limits n p) (world_of ss xs) ∥₁ → Done (stage_limits n p) o (memory_at ss o) r a m → RightRow (stage_limits n p) (history xs) o r a
 right n p o ss xs r a m good there v done = right_now (stage_limits n p) (world_of ss xs) o r a m limits v there done
   where
-    limits : GoodLimits moving (stage_limits n p)
+    limits : GoodLimits thin (stage_limits n p)
     limits = (grind (arith, nat_tests), grind (arith, nat_tests), grind (arith, nat_tests), λ k. refl)
 
 -- an office that was found is there

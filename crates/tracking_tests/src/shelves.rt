@@ -1,0 +1,172 @@
+// A world in which parcels move, what each office tells to be there, and what is tracked.
+use parcels::{Answer, Call, Kind, Reason, Refusal, Slip};
+use std::alloc::{AllocError, Global};
+use std::process::Abort;
+use std::test::Fail;
+use tracking::last_steps;
+use world::World;
+
+// What an office answers to a call that can happen.
+fn answer(rt: &impl Abort, world: &mut World, at: u32, call: Call) -> Answer {
+    let Ok(answer) = world.call(at, call) else {
+        panic!(rt; "a call at {at} that can't happen");
+    };
+    answer
+}
+
+// The parcels that are at an office by the journal, in the order of keys: it made their last steps, which left them there.
+fn tracked(heap: Global, world: &World, office: u32) -> Result<Vec<u32>, AllocError> {
+    let mut keys = Vec::new(heap);
+    let steps = last_steps(heap, world.journal())?;
+    for (key, step) in &steps {
+        if step.office == office && matches!(step.kind, Kind::Accepted | Kind::ComeIn) {
+            keys.push(*key)?;
+        }
+    }
+    Ok(keys)
+}
+
+// The office tells of these parcels, and of no others, by asking on from each answer; and each time, how many they are.
+fn check_shelf(rt: &impl Abort, world: &mut World, office: u32, keys: &[u32]) -> Result<(), Fail> {
+    let count = keys.len() as u64;
+    let mut from = 0;
+    for key in keys {
+        let next = u64::from(*key) + 1;
+        assert!(rt; answer(rt, world, office, Call::Here { from }) == Answer::Two(count, next));
+        from = u32::try_from(next)?;
+    }
+    assert!(rt; answer(rt, world, office, Call::Here { from }) == Answer::Two(count, 0));
+    Ok(())
+}
+
+fn slip(key: u32, step: u64, from: u32, to: u32, dest: u32, amount: u32) -> Slip {
+    Slip {
+        key,
+        step,
+        from,
+        to,
+        dest,
+        amount,
+    }
+}
+
+fn refused(reason: Reason) -> Answer {
+    Answer::Refused(Refusal { reason, place: 0 })
+}
+
+// Beside each call and its answer: the parcels that are at that office then. They come there in another order than that of
+// their keys, and one comes back to where it was accepted.
+#[test]
+fn told_as_tracked(rt: HostRuntime) -> Result<(), Fail> {
+    let heap = rt.alloc();
+    let Ok(mut world) = World::open(heap, 4, 8) else {
+        panic!(rt; "no world");
+    };
+    let take_in = |slip| Call::TakeIn { slip };
+    let first = slip(0, 1, 0, 1, 2, 50);
+    let onward = slip(0, 3, 1, 2, 2, 50);
+    let away = slip(131_072, 1, 2, 1, 0, 20);
+    let back = slip(131_072, 3, 1, 2, 0, 20);
+    let dear = slip(65_536, 1, 1, 3, 3, 1_000_000);
+    let way: &[(u32, Call, Answer, &[u32])] = &[
+        (
+            2,
+            Call::Accept {
+                dest: 0,
+                amount: 20,
+            },
+            Answer::Number(131_072),
+            &[131_072],
+        ),
+        (
+            0,
+            Call::Accept {
+                dest: 2,
+                amount: 50,
+            },
+            Answer::Number(0),
+            &[0],
+        ),
+        (
+            0,
+            Call::Accept { dest: 0, amount: 7 },
+            Answer::Number(1),
+            &[0, 1],
+        ),
+        (0, Call::Send { key: 0, to: 1 }, Answer::Given(first), &[1]),
+        (
+            2,
+            Call::Send {
+                key: 131_072,
+                to: 1,
+            },
+            Answer::Given(away),
+            &[],
+        ),
+        (1, take_in(away), Answer::Number(0), &[131_072]),
+        (1, take_in(first), Answer::Number(2), &[0, 131_072]),
+        (
+            1,
+            Call::Accept {
+                dest: 3,
+                amount: 1_000_000,
+            },
+            Answer::Number(65_536),
+            &[0, 65_536, 131_072],
+        ),
+        (0, Call::HandOut { key: 1 }, Answer::Number(7), &[]),
+        (
+            1,
+            Call::HandOut { key: 0 },
+            refused(Reason::OtherOffice),
+            &[0, 65_536, 131_072],
+        ),
+        (
+            1,
+            Call::Send { key: 0, to: 2 },
+            Answer::Given(onward),
+            &[65_536, 131_072],
+        ),
+        (2, take_in(onward), Answer::Number(2), &[0]),
+        (
+            1,
+            Call::Send {
+                key: 131_072,
+                to: 2,
+            },
+            Answer::Given(back),
+            &[65_536],
+        ),
+        (2, take_in(back), Answer::Number(0), &[0, 131_072]),
+        (2, Call::HandOut { key: 0 }, Answer::Number(50), &[131_072]),
+        (
+            1,
+            Call::Send { key: 65_536, to: 3 },
+            Answer::Given(dear),
+            &[],
+        ),
+        (
+            3,
+            Call::Accept { dest: 0, amount: 5 },
+            Answer::Number(196_608),
+            &[196_608],
+        ),
+        (3, take_in(dear), Answer::Number(3), &[65_536, 196_608]),
+        (
+            3,
+            Call::HandOut { key: 65_536 },
+            Answer::Number(1_000_000),
+            &[196_608],
+        ),
+        (3, take_in(dear), refused(Reason::WrongSlip), &[196_608]),
+    ];
+    for (at, call, answered, keys) in way {
+        assert!(rt; answer(&rt, &mut world, *at, *call) == *answered);
+        assert_eq!(rt; tracked(heap, &world, *at)?.as_slice(), *keys);
+        for office in 0..world.offices() {
+            let there = tracked(heap, &world, office)?;
+            check_shelf(&rt, &mut world, office, there.as_slice())?;
+        }
+    }
+    Ok(())
+}
