@@ -1,13 +1,15 @@
 // A full book of the greatest limit.
 ghost use Rattle.parcels.specs.Laws.{StepFits};
 
-use crate::lent::{LENT, changed, check_has, empty_book, entry, opened};
+use crate::lent::{
+    LENT, changed, check_counts, check_full, check_has, check_has_not, check_here, check_put,
+    check_sums, empty_book, entry, opened,
+};
+use book::Book;
 use book::key::KeyParts;
-use book::{Book, Full};
 use parcels::{Entry, Kind};
 use std::process::Abort;
 use std::test::Fail;
-use tally::{Shelf, Sums};
 
 // The keys of the test, from the lowest on: the first 4,096 of each of 16 offices.
 fn key(n: u16) -> u32 {
@@ -42,44 +44,37 @@ fn check_told(rt: &impl Abort, book: &mut Book) {
         (987_134, Some(987_134)),
         (987_135, None),
     ] {
-        let shelf = Shelf {
-            count: 32_767,
-            first,
-        };
-        assert_eq!(rt; book.here(from), shelf);
+        check_here(rt, book, from, 32_767, first);
     }
     for n in 0..=u16::MAX {
-        assert_eq!(rt; book.put(dearest(key(n))), Ok(()));
+        check_put(rt, book, dearest(key(n)));
     }
-    let sums = Sums {
-        collected: 65_536_000_000,
-        paid_out: 65_536_000_000,
-    };
-    assert_eq!(rt; book.here(0), Shelf::default());
-    assert_eq!(rt; book.sums(), sums);
+    check_here(rt, book, 0, 0, None);
+    check_sums(rt, book, 65_536_000_000, 65_536_000_000);
 }
 
 // From the highest key down to 0, which comes to stand below 32 rows: in no tree does a row stand deeper.
+fn fill(rt: &impl Abort, book: &mut Book) {
+    for n in (0..=u16::MAX).rev() {
+        check_put(rt, book, entry(key(n)));
+    }
+    for n in 0..=u16::MAX {
+        check_has(rt, book, entry(key(n)));
+    }
+}
+
 #[test]
 fn highest_key_first(rt: HostRuntime) -> Result<(), Fail> {
     let opening = opened(&rt, 16, 5, 65_536);
     let mut memory = vec![in rt.alloc(); LENT; opening.words() + 9]?;
     let mut book = empty_book(&rt, opening, memory.as_mut_slice());
-    for n in (0..=u16::MAX).rev() {
-        assert_eq!(rt; book.put(entry(key(n))), Ok(()));
-    }
-    for n in 0..=u16::MAX {
-        check_has(&rt, &book, entry(key(n)));
-    }
+    fill(&rt, &mut book);
     let not_added = 4_096;
-    assert_eq!(rt; book.find(not_added), None);
-    assert_eq!(rt; book.put(entry(not_added)), Err(Full));
-    assert_eq!(rt; book.find(not_added), None);
-    assert_eq!(rt; book.put(changed(0)), Ok(()));
+    check_has_not(&rt, &book, not_added);
+    check_full(&rt, &mut book, not_added);
+    check_put(&rt, &mut book, changed(0));
     check_has(&rt, &book, changed(0));
-    assert_eq!(rt; book.count(), 65_536);
-    assert_eq!(rt; book.accepted(), 4_096);
-    assert_eq!(rt; book.next_key(), None);
+    check_counts(&rt, &book, 65_536, 4_096, None);
     check_told(&rt, &mut book);
     let beyond = memory.as_slice().get(opening.words()..);
     assert!(rt; beyond == Some([LENT; 9].as_slice()));

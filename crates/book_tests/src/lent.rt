@@ -2,10 +2,11 @@
 ghost use Rattle.std.specs.Prelude.{◌≡◌, ◌≤◌};
 ghost use Rattle.parcels.specs.Laws.{StepFits};
 
-use book::Book;
 use book::opening::Opening;
+use book::{Book, Full};
 use parcels::{Entry, Kind};
 use std::process::Abort;
+use tally::{Shelf, Sums};
 
 // What each lent word is before anything is written.
 pub const LENT: u32 = 0xeeee_eeee;
@@ -56,7 +57,60 @@ pub(crate) fn changed(key: u32) -> Entry
     Entry { key, ..entry(!key) }
 }
 
+// The entry can be put in. (Each check that is made more than once has a function of its own: what a function costs to
+// prove grows faster than its length.)
+pub(crate) fn check_put(rt: &impl Abort, book: &mut Book, entry: Entry)
+    requires { StepFits entry }
+    ensures same_opening { book.new.opening ≡ book.old.opening }
+    ensures same_reference { book.new.memory.ghost_name ≡ book.old.memory.ghost_name }
+{
+    assert_eq!(rt; book.put(entry), Ok(()));
+}
+
 // The book has this of the parcel.
 pub(crate) fn check_has(rt: &impl Abort, book: &Book, entry: Entry) {
     assert_eq!(rt; book.find(entry.key), Some(entry));
+}
+
+// The book has nothing of the parcel.
+pub(crate) fn check_has_not(rt: &impl Abort, book: &Book, key: u32) {
+    assert_eq!(rt; book.find(key), None);
+}
+
+// The parcel can't be put in, and is not there.
+pub(crate) fn check_full(rt: &impl Abort, book: &mut Book, key: u32) {
+    assert_eq!(rt; book.put(entry(key)), Err(Full));
+    check_has_not(rt, book, key);
+}
+
+// How many parcels there are, how many this office accepted, and the key of its next.
+pub(crate) fn check_counts(
+    rt: &impl Abort,
+    book: &Book,
+    count: u32,
+    accepted: u32,
+    next: Option<u32>,
+) {
+    let told = (
+        book.count(),
+        book.accepted(),
+        book.next_key(),
+        book.has_room(),
+    );
+    assert_eq!(rt; told, (count, accepted, next, next.is_some()));
+}
+
+// How many parcels are here, and the first of them from a key on.
+pub(crate) fn check_here(rt: &impl Abort, book: &Book, from: u32, count: u32, first: Option<u32>) {
+    assert_eq!(rt; book.here(from), Shelf { count, first });
+}
+
+pub(crate) fn check_sums(rt: &impl Abort, book: &Book, collected: u64, paid_out: u64) {
+    assert_eq!(rt;
+        book.sums(),
+        Sums {
+            collected,
+            paid_out
+        }
+    );
 }

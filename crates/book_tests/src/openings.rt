@@ -1,7 +1,7 @@
 // With which limits and in which memory a book is opened.
 ghost use Rattle.std.specs.Prelude.{◌≤◌};
 
-use crate::lent::{LENT, empty_book, entry, opened};
+use crate::lent::{LENT, check_put, empty_book, entry, opened};
 use book::opening::Opening;
 use parcels::Refusal;
 use std::process::Abort;
@@ -69,7 +69,7 @@ fn check_enough<const WORDS: usize>(rt: &impl Abort)
         let mut memory = [LENT; WORDS];
         let mut book = empty_book(rt, opened(rt, 4, 2, 2), &mut memory);
         for key in 0..parcels {
-            assert_eq!(rt; book.put(entry(key)), Ok(()));
+            check_put(rt, &mut book, entry(key));
         }
         for word in memory.iter().skip(ENOUGH) {
             assert_eq!(rt; *word, LENT);

@@ -1,6 +1,9 @@
 // Small books: what is put in is found and counted, and which key comes next.
-use crate::lent::{LENT, changed, check_has, empty_book, entry, opened};
-use book::{Book, Full};
+use crate::lent::{
+    LENT, changed, check_counts, check_full, check_has, check_has_not, check_put, empty_book,
+    entry, opened,
+};
+use book::Book;
 
 #[test]
 fn keys_at_the_ends(rt: HostRuntime) {
@@ -8,16 +11,15 @@ fn keys_at_the_ends(rt: HostRuntime) {
     let mut book = empty_book(&rt, opened(&rt, 16, 0, 8), &mut memory);
     let keys = [65_536, 4_294_967_295, 0, 65_535];
     for key in keys {
-        assert_eq!(rt; book.find(key), None);
-        assert_eq!(rt; book.put(entry(key)), Ok(()));
+        check_has_not(&rt, &book, key);
+        check_put(&rt, &mut book, entry(key));
     }
     for key in keys {
         check_has(&rt, &book, entry(key));
-        assert_eq!(rt; book.put(changed(key)), Ok(()));
+        check_put(&rt, &mut book, changed(key));
         check_has(&rt, &book, changed(key));
     }
-    assert_eq!(rt; book.count(), 4);
-    assert_eq!(rt; book.accepted(), 2);
+    check_counts(&rt, &book, 4, 2, Some(2));
 }
 
 // After each entry: how many parcels there are, how many this office accepted, and the key of its next.
@@ -25,7 +27,7 @@ fn keys_at_the_ends(rt: HostRuntime) {
 fn next_keys(rt: HostRuntime) {
     let mut memory = [LENT; 96];
     let mut book = empty_book(&rt, opened(&rt, 4, 2, 3), &mut memory);
-    assert_eq!(rt; book.next_key(), Some(131_072));
+    check_counts(&rt, &book, 0, 0, Some(131_072));
     for (entry, count, accepted, next) in [
         (entry(131_072), 1, 1, Some(131_073)),
         // of another office
@@ -34,11 +36,8 @@ fn next_keys(rt: HostRuntime) {
         (changed(131_072), 2, 1, Some(131_073)),
         (entry(131_073), 3, 2, None),
     ] {
-        assert_eq!(rt; book.put(entry), Ok(()));
-        assert_eq!(rt; book.count(), count);
-        assert_eq!(rt; book.accepted(), accepted);
-        assert_eq!(rt; book.next_key(), next);
-        assert_eq!(rt; book.has_room(), next.is_some());
+        check_put(&rt, &mut book, entry);
+        check_counts(&rt, &book, count, accepted, next);
     }
 }
 
@@ -46,10 +45,8 @@ fn next_keys(rt: HostRuntime) {
 fn a_limit_of_0(rt: HostRuntime) {
     let mut memory = [LENT; 24];
     let mut book = empty_book(&rt, opened(&rt, 4, 2, 0), &mut memory);
-    assert_eq!(rt; book.next_key(), None);
-    assert_eq!(rt; book.put(entry(131_072)), Err(Full));
-    assert_eq!(rt; book.find(131_072), None);
-    assert_eq!(rt; book.count(), 0);
+    check_full(&rt, &mut book, 131_072);
+    check_counts(&rt, &book, 0, 0, None);
 }
 
 // A book is left, and another one made over its memory.
@@ -59,13 +56,13 @@ fn taken_up_again(rt: HostRuntime) {
     let mut memory = [LENT; 96];
     let memory = memory.as_mut_slice();
     let mut left = empty_book(&rt, opening, memory);
-    assert_eq!(rt; left.put(entry(131_072)), Ok(()));
-    assert_eq!(rt; left.put(entry(65_536)), Ok(()));
+    check_put(&rt, &mut left, entry(131_072));
+    check_put(&rt, &mut left, entry(65_536));
     let mut book = Book::over(opening, memory);
-    assert_eq!(rt; book.next_key(), Some(131_073));
-    assert_eq!(rt; book.put(entry(0)), Ok(()));
+    check_counts(&rt, &book, 2, 1, Some(131_073));
+    check_put(&rt, &mut book, entry(0));
     for key in [131_072, 65_536, 0] {
         check_has(&rt, &book, entry(key));
     }
-    assert_eq!(rt; book.count(), 3);
+    check_counts(&rt, &book, 3, 1, None);
 }

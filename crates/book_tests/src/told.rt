@@ -1,6 +1,5 @@
 // What is here, and sums, by small books.
-use crate::lent::{LENT, changed, empty_book, entry, opened};
-use tally::{Shelf, Sums};
+use crate::lent::{LENT, changed, check_here, check_put, check_sums, empty_book, entry, opened};
 
 // After each entry: what is here, from key 0 on, and sums. The keys below 8 have each kind twice: paid out, and not.
 #[test]
@@ -27,15 +26,9 @@ fn each_kind(rt: HostRuntime) {
         // handed out, 4,294,967,291, paid out: both sums are more than four bytes hold
         (changed(0), 3, Some(2), 4_294_967_341, 4_294_967_401),
     ] {
-        assert_eq!(rt; book.put(entry), Ok(()));
-        assert_eq!(rt; book.here(0), Shelf { count, first });
-        assert_eq!(rt;
-            book.sums(),
-            Sums {
-                collected,
-                paid_out
-            }
-        );
+        check_put(&rt, &mut book, entry);
+        check_here(&rt, &book, 0, count, first);
+        check_sums(&rt, &book, collected, paid_out);
     }
     for (from, first) in [
         (1, Some(2)),
@@ -46,7 +39,7 @@ fn each_kind(rt: HostRuntime) {
         (7, None),
         (4_294_967_295, None),
     ] {
-        assert_eq!(rt; book.here(from), Shelf { count: 3, first });
+        check_here(&rt, &book, from, 3, first);
     }
 }
 
@@ -56,17 +49,13 @@ fn the_largest_key(rt: HostRuntime) {
     let largest = 4_294_967_295;
     let mut memory = [LENT; 216];
     let mut book = empty_book(&rt, opened(&rt, 4, 2, 8), &mut memory);
-    assert_eq!(rt; book.here(0), Shelf::default());
-    assert_eq!(rt; book.here(largest), Shelf::default());
-    assert_eq!(rt; book.sums(), Sums::default());
+    check_here(&rt, &book, 0, 0, None);
+    check_here(&rt, &book, largest, 0, None);
+    check_sums(&rt, &book, 0, 0);
     // both are here
-    assert_eq!(rt; book.put(changed(largest)), Ok(()));
-    assert_eq!(rt; book.put(entry(0)), Ok(()));
+    check_put(&rt, &mut book, changed(largest));
+    check_put(&rt, &mut book, entry(0));
     for (from, first) in [(0, 0), (1, largest), (largest, largest)] {
-        let shelf = Shelf {
-            count: 2,
-            first: Some(first),
-        };
-        assert_eq!(rt; book.here(from), shelf);
+        check_here(&rt, &book, from, 2, Some(first));
     }
 }
