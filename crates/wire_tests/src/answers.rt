@@ -1,8 +1,8 @@
 // Each answer beside its bytes. The bytes of a number differ, and so do the numbers of an answer.
-use crate::lent::check_written;
+use crate::lent::check_answer_written;
 use parcels::{Answer, Kind, Reason, Refusal, Slip, Step};
 use std::process::Abort;
-use wire::{read_answer, write_answer};
+use wire::read_answer;
 
 pub(crate) fn check_answers(rt: &impl Abort) {
     let table: &[(Answer, &[u8])] = &[
@@ -140,6 +140,6 @@ fn check_kinds(rt: &impl Abort) {
 // `check_call`: three lines, of which each names its own functions.)
 fn check_answer(rt: &impl Abort, answer: Answer, bytes: &[u8]) {
     assert!(rt; read_answer(bytes) == Some(answer), "answer {bytes:?}");
-    check_written::<64, _>(rt, Some(bytes), |out| write_answer(answer, out));
-    check_written::<70, _>(rt, Some(bytes), |out| write_answer(answer, out));
+    check_answer_written::<64>(rt, answer, Some(bytes));
+    check_answer_written::<70>(rt, answer, Some(bytes));
 }

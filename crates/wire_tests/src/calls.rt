@@ -1,9 +1,9 @@
 // Each call beside its bytes. The bytes of a number differ, and so do the numbers of a call, so that no other
 // order, shift or exchange gives the same row.
-use crate::lent::check_written;
+use crate::lent::check_call_written;
 use parcels::{Call, Slip};
 use std::process::Abort;
-use wire::{read_call, write_call};
+use wire::read_call;
 
 pub(crate) fn check_calls(rt: &impl Abort) {
     let table: &[(Call, &[u8])] = &[
@@ -80,6 +80,6 @@ pub(crate) fn check_calls(rt: &impl Abort) {
 // The bytes are read as the call, and the call is written as the bytes, into the fewest that may be lent too.
 fn check_call(rt: &impl Abort, call: Call, bytes: &[u8]) {
     assert!(rt; read_call(bytes) == Ok(call), "call {bytes:?}");
-    check_written::<64, _>(rt, Some(bytes), |out| write_call(call, out));
-    check_written::<25, _>(rt, Some(bytes), |out| write_call(call, out));
+    check_call_written::<64>(rt, call, Some(bytes));
+    check_call_written::<25>(rt, call, Some(bytes));
 }

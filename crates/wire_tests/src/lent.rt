@@ -8,26 +8,41 @@ use wire::{ANSWER_BYTES, MAX_CALL_BYTES, write_answer, write_call};
 // What each lent byte is before anything is written: a byte of no row in the tables, so that each write shows.
 const LENT: u8 = 0xee;
 
-// Checks that these bytes are written into so many lent ones, or that nothing can be written, and that each byte
-// behind what was written stayed.
-pub(crate) fn check_written<const LENT_BYTES: usize, F: FnOnce(&mut [u8]) -> Option<usize>>(
+// The call is written as these bytes into so many lent ones, or can't be written.
+pub(crate) fn check_call_written<const LENT_BYTES: usize>(
     rt: &impl Abort,
+    call: Call,
     wanted: Option<&[u8]>,
-    write: F,
 )
     requires few { LENT_BYTES ≤ 70 }
-    requires callable { F.IsAlwaysCallable write }
 {
     let mut out = [LENT; LENT_BYTES];
-    let written = write(&mut out);
-    assert_eq!(rt; written, wanted.map(|bytes| bytes.len()), "{wanted:?}");
+    let len = write_call(call, &mut out);
+    check_written(rt, &out, len, wanted);
+}
+
+// The same of an answer. (Not one function that takes what writes: each closure would be proved by itself.)
+pub(crate) fn check_answer_written<const LENT_BYTES: usize>(
+    rt: &impl Abort,
+    answer: Answer,
+    wanted: Option<&[u8]>,
+)
+    requires few { LENT_BYTES ≤ 70 }
+{
+    let mut out = [LENT; LENT_BYTES];
+    let len = write_answer(answer, &mut out);
+    check_written(rt, &out, len, wanted);
+}
+
+// The lent bytes begin with these, which are as many as was said, and each byte behind stayed.
+fn check_written(rt: &impl Abort, out: &[u8], len: Option<usize>, wanted: Option<&[u8]>) {
+    assert_eq!(rt; len, wanted.map(|bytes| bytes.len()), "{wanted:?}");
     let bytes = wanted.unwrap_or(b"");
-    let out = out.as_slice();
-    assert!(rt; bytes.len() <= out.len(), "{bytes:?}");
-    let (front, behind) = out.split_at(bytes.len());
-    assert_eq!(rt; front, bytes);
+    let Some(behind) = out.strip_prefix(bytes) else {
+        panic!(rt; "{out:?} does not begin with {bytes:?}");
+    };
     for byte in behind {
-        assert_eq!(rt; *byte, LENT, "behind {bytes:?}");
+        assert_eq!(rt; *byte, LENT);
     }
 }
 
@@ -44,12 +59,12 @@ pub(crate) fn check_too_few(rt: &impl Abort) {
         amount: 5,
     };
     // a call's field can't carry this step, though 64 bytes are lent
-    check_written::<64, _>(rt, None, |out| write_call(Call::TakeIn { slip }, out));
+    check_call_written::<64>(rt, Call::TakeIn { slip }, None);
     // a call of one byte wants 25 lent as well
-    check_written::<24, _>(rt, None, |out| write_call(Call::Sums, out));
-    check_written::<0, _>(rt, None, |out| write_call(Call::Sums, out));
+    check_call_written::<24>(rt, Call::Sums, None);
+    check_call_written::<0>(rt, Call::Sums, None);
     // an answer of one byte wants 64 lent as well
-    check_written::<63, _>(rt, None, |out| write_answer(Answer::NothingHeard, out));
-    check_written::<63, _>(rt, None, |out| write_answer(Answer::Given(slip), out));
-    check_written::<0, _>(rt, None, |out| write_answer(Answer::NothingHeard, out));
+    check_answer_written::<63>(rt, Answer::NothingHeard, None);
+    check_answer_written::<63>(rt, Answer::Given(slip), None);
+    check_answer_written::<0>(rt, Answer::NothingHeard, None);
 }
