@@ -1,5 +1,5 @@
 // An office in lent memory, and what it is asked.
-ghost use Rattle.std.specs.Prelude.{◌≡◌};
+ghost use Rattle.std.specs.Prelude.{◌≡◌, ◌≤◌};
 ghost use Rattle.book.specs.Ready.{Ready};
 
 use book::opening::Opening;
@@ -64,6 +64,27 @@ impl Lent {
         };
         assert!(rt; len <= MAX_CALL_BYTES);
         self.ask(rt, &row[..len])
+    }
+
+    // It answers the call by this. (This and the checks below have functions of their own: what a function costs to prove
+    // grows faster than its length.)
+    pub(crate) fn check(&mut self, rt: &impl Abort, call: Call, answer: Answer) {
+        assert!(rt; self.call(rt, call) == answer, "call {}", call.number());
+    }
+
+    // The same, and no word changes.
+    pub(crate) fn check_told(&mut self, rt: &impl Abort, call: Call, answer: Answer) {
+        let before = self.memory;
+        self.check(rt, call, answer);
+        assert!(rt; self.memory == before);
+    }
+
+    // A row of the memory begins with these words: key, step, marks, to, dest, amount, and the links.
+    pub(crate) fn check_row(&self, rt: &impl Abort, row: usize, words: [u32; 9])
+        requires within { row ≤ 5 }
+    {
+        let start = 24 * row;
+        assert_eq!(rt; &self.memory[start..start + 9], words.as_slice());
     }
 }
 

@@ -45,7 +45,7 @@ fn busy(rt: &impl Abort) -> Lent {
         (Call::Send { key: 65_537, to: 0 }, Answer::Given(SENT)),
         (Call::HandOut { key: 65_538 }, Answer::Number(1_000_000)),
     ] {
-        assert!(rt; lent.call(rt, call) == answer);
+        lent.check(rt, call, answer);
     }
     lent
 }
@@ -96,28 +96,27 @@ fn calls(rt: HostRuntime) {
         (Call::Pay { key: 65_538 }, (2, 0)),
         (Call::WhereIs { key: 65_536 }, (2, 0)),
     ] {
-        let mut lent = before;
-        check_refused(&rt, lent.call(&rt, call), refused);
-        assert!(rt; lent.memory == before.memory);
+        check_turned_away(&rt, before, call, refused);
     }
+}
+
+// The call is refused with these numbers, and each word stays.
+fn check_turned_away(rt: &impl Abort, before: Lent, call: Call, refused: (u8, u64)) {
+    let mut lent = before;
+    check_refused(rt, lent.call(rt, call), refused);
+    assert!(rt; lent.memory == before.memory);
 }
 
 // The office is full, but knows the parcel that comes back, by any step that is newer than the one that it made.
 #[test]
 fn back_at_the_limit(rt: HostRuntime) {
     let before = busy(&rt);
-    // key, step, marks, to, dest, amount, and the links; row 3 hangs below it
-    assert_eq!(rt;
-        &before.memory[48..57],
-        [65_537, 1, 0, 1, 0, 0, 7, 3, 0].as_slice()
-    );
+    // row 3 hangs below it
+    before.check_row(&rt, 2, [65_537, 1, 0, 1, 0, 0, 7, 3, 0]);
     for (slip, step) in [(Slip { step: 2, ..BACK }, 3), (BACK, 4)] {
         let mut lent = before;
-        assert!(rt; lent.call(&rt, take_in(slip)) == Answer::Number(0));
-        assert_eq!(rt;
-            &lent.memory[48..57],
-            [65_537, step, 0, 2, 1, 0, 7, 3, 0].as_slice()
-        );
+        lent.check(&rt, take_in(slip), Answer::Number(0));
+        lent.check_row(&rt, 2, [65_537, step, 0, 2, 1, 0, 7, 3, 0]);
     }
 }
 
@@ -173,11 +172,8 @@ fn check_too_few<const BYTES: usize>(rt: &impl Abort)
         b"",
     ];
     for row in rows {
-        let mut out = [LENT_BYTE; BYTES];
-        let len = Office::over(lent.opening, &mut lent.memory).call(row, &mut out);
-        assert!(rt; len.is_none(), "{row:?}");
-        assert!(rt; out == [LENT_BYTE; BYTES], "{row:?}");
-        assert!(rt; lent.memory == before.memory, "{row:?}");
+        check_no_answer::<BYTES>(rt, &mut lent, row);
+        assert!(rt; lent.memory == before.memory);
     }
     let sent = Slip {
         key: 65_536,
@@ -187,5 +183,15 @@ fn check_too_few<const BYTES: usize>(rt: &impl Abort)
         dest: 2,
         amount: 50,
     };
-    assert!(rt; lent.call(rt, Call::Send { key: 65_536, to: 2 }) == Answer::Given(sent));
+    lent.check(rt, Call::Send { key: 65_536, to: 2 }, Answer::Given(sent));
+}
+
+// There is no answer to the row of bytes, and each lent byte stays.
+fn check_no_answer<const BYTES: usize>(rt: &impl Abort, lent: &mut Lent, row: &[u8])
+    requires few { BYTES ≤ 63 }
+{
+    let mut out = [LENT_BYTE; BYTES];
+    let len = Office::over(lent.opening, &mut lent.memory).call(row, &mut out);
+    assert!(rt; len.is_none(), "{row:?}");
+    assert!(rt; out == [LENT_BYTE; BYTES], "{row:?}");
 }

@@ -15,12 +15,8 @@ fn the_largest_step(rt: HostRuntime) {
         dest: 0,
         amount: 50,
     };
-    assert!(rt; lent.call(&rt, Call::TakeIn { slip }) == Answer::Number(0));
-    // key, step, marks, to, dest, amount, and the links, which lead nowhere
-    assert_eq!(rt;
-        &lent.memory[24..33],
-        [131_072, 0, 1, 2, 1, 0, 50, 0, 0].as_slice()
-    );
+    lent.check(&rt, Call::TakeIn { slip }, Answer::Number(0));
+    lent.check_row(&rt, 1, [131_072, 0, 1, 2, 1, 0, 50, 0, 0]);
     let sent = Slip {
         step: 4_294_967_297,
         from: 1,
@@ -31,15 +27,10 @@ fn the_largest_step(rt: HostRuntime) {
         key: 131_072,
         to: 0,
     };
-    assert!(rt; lent.call(&rt, send) == Answer::Given(sent));
-    assert_eq!(rt;
-        &lent.memory[24..33],
-        [131_072, 1, 1, 1, 0, 0, 50, 0, 0].as_slice()
-    );
-    let before = lent.memory;
+    lent.check(&rt, send, Answer::Given(sent));
+    lent.check_row(&rt, 1, [131_072, 1, 1, 1, 0, 0, 50, 0, 0]);
     let again = Call::SlipAgain { key: 131_072 };
-    assert!(rt; lent.call(&rt, again) == Answer::Given(sent));
-    assert!(rt; lent.memory == before);
+    lent.check_told(&rt, again, Answer::Given(sent));
 }
 
 // What is kept of a parcel that was accepted, and of one that was handed out.
@@ -50,19 +41,13 @@ fn accepted_and_handed_out(rt: HostRuntime) {
         dest: 2,
         amount: 50,
     };
-    assert!(rt; lent.call(&rt, passing) == Answer::Number(65_536));
-    assert_eq!(rt;
-        &lent.memory[24..33],
-        [65_536, 0, 0, 0, 1, 2, 50, 0, 0].as_slice()
-    );
+    lent.check(&rt, passing, Answer::Number(65_536));
+    lent.check_row(&rt, 1, [65_536, 0, 0, 0, 1, 2, 50, 0, 0]);
     let staying = Call::Accept { dest: 1, amount: 7 };
-    assert!(rt; lent.call(&rt, staying) == Answer::Number(65_537));
+    lent.check(&rt, staying, Answer::Number(65_537));
     let hand_out = Call::HandOut { key: 65_537 };
-    assert!(rt; lent.call(&rt, hand_out) == Answer::Number(7));
-    assert_eq!(rt;
-        &lent.memory[48..57],
-        [65_537, 1, 0, 3, 1, 1, 7, 0, 0].as_slice()
-    );
+    lent.check(&rt, hand_out, Answer::Number(7));
+    lent.check_row(&rt, 2, [65_537, 1, 0, 3, 1, 1, 7, 0, 0]);
 }
 
 // An office is left after two calls, and taken up again over its memory.

@@ -14,19 +14,14 @@ const COMING: Slip = Slip {
     amount: 30,
 };
 
-// The call is answered by these two numbers, and changes nothing.
-fn check_told(rt: &impl Abort, lent: &mut Lent, call: Call, told: (u64, u64)) {
-    let before = lent.memory;
-    assert!(rt;
-        lent.call(rt, call) == Answer::Two(told.0, told.1),
-        "not {told:?}"
-    );
-    assert!(rt; lent.memory == before);
+// What is told from a key on: how many parcels are here, and where to ask on.
+fn check_here(rt: &impl Abort, lent: &mut Lent, from: u32, count: u64, next: u64) {
+    lent.check_told(rt, Call::Here { from }, Answer::Two(count, next));
 }
 
 // Nothing was paid out: paying can't be done yet.
 fn check_sums(rt: &impl Abort, lent: &mut Lent, collected: u64) {
-    check_told(rt, lent, Call::Sums, (collected, 0));
+    lent.check_told(rt, Call::Sums, Answer::Two(collected, 0));
 }
 
 // These parcels are here, by asking on from each answer: each is told as one more than its key, until none is left, or no
@@ -38,12 +33,11 @@ fn check_shelf(rt: &impl Abort, lent: &mut Lent, keys: &[u32]) {
         let Some(asked) = from else {
             panic!(rt; "no key is above the one before {key}");
         };
-        let told = (count, u64::from(*key) + 1);
-        check_told(rt, lent, Call::Here { from: asked }, told);
+        check_here(rt, lent, asked, count, u64::from(*key) + 1);
         from = key.checked_add(1);
     }
     if let Some(asked) = from {
-        check_told(rt, lent, Call::Here { from: asked }, (count, 0));
+        check_here(rt, lent, asked, count, 0);
     }
 }
 
@@ -53,7 +47,7 @@ fn nothing_here(rt: HostRuntime) {
     for parcels in [0, 5] {
         let mut lent = Lent::open(&rt, 3, 1, parcels);
         for from in [0, 65_536, 4_294_967_295] {
-            check_told(&rt, &mut lent, Call::Here { from }, (0, 0));
+            check_here(&rt, &mut lent, from, 0, 0);
         }
         check_sums(&rt, &mut lent, 0);
     }
@@ -120,7 +114,7 @@ fn at_each_step(rt: HostRuntime) {
         ),
     ];
     for (call, answer, keys, collected) in way {
-        assert!(rt; lent.call(&rt, *call) == *answer);
+        lent.check(&rt, *call, *answer);
         check_shelf(&rt, &mut lent, keys);
         check_sums(&rt, &mut lent, *collected);
     }
@@ -138,7 +132,7 @@ fn from_each_key(rt: HostRuntime) {
         },
         Slip { key: 9, ..COMING },
     ] {
-        assert!(rt; lent.call(&rt, Call::TakeIn { slip }) == Answer::Number(1));
+        lent.check(&rt, Call::TakeIn { slip }, Answer::Number(1));
     }
     for (from, next) in [
         (0, 10),
@@ -150,7 +144,7 @@ fn from_each_key(rt: HostRuntime) {
         (131_075, 0),
         (4_294_967_295, 0),
     ] {
-        check_told(&rt, &mut lent, Call::Here { from }, (2, next));
+        check_here(&rt, &mut lent, from, 2, next);
     }
 }
 
@@ -212,7 +206,7 @@ fn out_of_order(rt: HostRuntime) {
         ),
     ];
     for (call, answer, keys) in way {
-        assert!(rt; lent.call(&rt, *call) == *answer);
+        lent.check(&rt, *call, *answer);
         check_shelf(&rt, &mut lent, keys);
     }
     check_sums(&rt, &mut lent, 100);
@@ -229,7 +223,7 @@ fn several_handed_out(rt: HostRuntime) {
         (2, 50, 65_539),
         (1, 20, 65_540),
     ] {
-        assert!(rt; lent.call(&rt, Call::Accept { dest, amount }) == Answer::Number(key));
+        lent.check(&rt, Call::Accept { dest, amount }, Answer::Number(key));
     }
     check_sums(&rt, &mut lent, 0);
     for (key, amount, collected) in [
@@ -237,7 +231,7 @@ fn several_handed_out(rt: HostRuntime) {
         (65_536, 7, 1_000_007),
         (65_538, 0, 1_000_007),
     ] {
-        assert!(rt; lent.call(&rt, Call::HandOut { key }) == Answer::Number(amount));
+        lent.check(&rt, Call::HandOut { key }, Answer::Number(amount));
         check_sums(&rt, &mut lent, collected);
     }
     let sent = Slip {
@@ -248,9 +242,9 @@ fn several_handed_out(rt: HostRuntime) {
         dest: 2,
         amount: 50,
     };
-    assert!(rt; lent.call(&rt, Call::Send { key: 65_539, to: 2 }) == Answer::Given(sent));
+    lent.check(&rt, Call::Send { key: 65_539, to: 2 }, Answer::Given(sent));
     check_sums(&rt, &mut lent, 1_000_007);
-    assert!(rt; lent.call(&rt, Call::HandOut { key: 65_540 }) == Answer::Number(20));
+    lent.check(&rt, Call::HandOut { key: 65_540 }, Answer::Number(20));
     check_sums(&rt, &mut lent, 1_000_027);
     check_shelf(&rt, &mut lent, &[]);
 }
@@ -267,8 +261,8 @@ fn as_bytes(rt: HostRuntime) {
         dest: 1,
         amount: 1_000_000,
     };
-    assert!(rt; lent.call(&rt, Call::TakeIn { slip: largest }) == Answer::Number(1));
-    assert!(rt; lent.call(&rt, dearest) == Answer::Number(65_536));
+    lent.check(&rt, Call::TakeIn { slip: largest }, Answer::Number(1));
+    lent.check(&rt, dearest, Answer::Number(65_536));
     let mut office = Office::over(lent.opening, &mut lent.memory);
     // here from 65,537
     check_answer(
