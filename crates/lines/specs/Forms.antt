@@ -1,60 +1,98 @@
 -- How each line and each call is written: the words, numbers and marks that stand one behind the other.
-use Rattle.std.specs.Prelude.{◌≡◌, ℕ, ◌^◌, true, ◌⊎◌, List, length, drop, codes, ◌==◌}
-use Rattle.std.specs.Char.{is_ascii_alphabetic, is_ascii_digit}
-use Rattle.std.specs.List.{take_while, starts_with}
-use Rattle.lines.specs.Tokens.{without_blanks, behind, first_number, HasNumberBelow, is_blank_line, AreBytes}
+use Rattle.std.specs.Prelude.{◌≡◌, ℕ, true, ◌⊎◌, List, [], ◌∷◌, codes, Ok, Err, Result}
+use Rattle.lines.specs.Tokens.{without_blanks, is_blank_line, Token, word, number, mark, Stand, byte_tokens}
+use Rattle.lines.specs.declared.CallName.{CallName}
+use Rattle.lines.specs.declared.CallName.TheVariants.{Accept as NAccept, Send as NSend, Slip as NSlip, Take as NTake, Hand as NHand, Pay as NPay, Where as NWhere, Here as NHere, Sums as NSums}
+use Rattle.lines.specs.declared.Deed.{Deed}
+use Rattle.lines.specs.declared.Deed.TheVariants.{Call as DCall, Bytes as DBytes, Tick as DTick}
 use Rattle.lines.specs.declared.Line.{Line}
 use Rattle.lines.specs.declared.Line.TheVariants.{Blank, Opening, Call, Bytes, Tick, AllTick, Letter, AllLetters, AllLettersLastFirst}
+use Rattle.lines.specs.declared.fault.Fault.{Fault}
+use Rattle.lines.specs.declared.fault.Fault.TheVariants.{NoMemory}
 use Rattle.parcels.specs.declared.Call.{Call as ACall}
 use Rattle.parcels.specs.declared.Call.TheVariants.{Accept, Send, SlipAgain, TakeIn, HandOut, Pay, WhereIs, Here, Sums}
 
--- what is left of a line is written so
-abbrev pub Form : Type 1
-Form = List ℕ → Type 0
-
--- a word, and then what another form says
-abbrev pub word : List ℕ → Form → Form
-word w then bs = (take_while is_ascii_alphabetic bs ≡ w) × then (behind is_ascii_alphabetic bs)
-
--- a number that four bytes hold
-abbrev pub number : ℕ → Form → Form
-number n then bs = HasNumberBelow (2 ^ 32) bs × (first_number bs ≡ n) × then (behind is_ascii_digit bs)
-
--- a mark
-abbrev pub mark : List ℕ → Form → Form
-mark m then bs = (starts_with ◌==◌ bs m ≡ true) × then (without_blanks (drop (length m) bs))
-
 -- a call
-abbrev pub call_form : ACall → Form → Form
-call_form (Accept dest amount) then = word (codes "accept") (word (codes "for") (number dest (mark (codes ",") (number amount then))))
-call_form (Send key to) then = word (codes "send") (number key (word (codes "to") (number to then)))
-call_form (SlipAgain key) then = word (codes "slip") (number key then)
-call_form (TakeIn s) then =
-    word (codes "take") (word (codes "in") (number s.key (mark (codes ":") (number s.step (number s.from (number s.to (number s.dest (number s.amount then))))))))
-call_form (HandOut key) then = word (codes "hand") (word (codes "out") (number key then))
-call_form (Pay key) then = word (codes "pay") (number key then)
-call_form (WhereIs key) then = word (codes "where") (word (codes "is") (number key then))
-call_form (Here from) then = word (codes "here") (word (codes "from") (number from then))
-call_form Sums then = word (codes "sums") then
+abbrev pub call_tokens : ACall → List Token
+call_tokens (Accept dest amount) = word (codes "accept") ∷ word (codes "for") ∷ number dest ∷ mark (codes ",") ∷ number amount ∷ []
+call_tokens (Send key to) = word (codes "send") ∷ number key ∷ word (codes "to") ∷ number to ∷ []
+call_tokens (SlipAgain key) = word (codes "slip") ∷ number key ∷ []
+call_tokens (TakeIn s) =
+    word (codes "take") ∷ word (codes "in") ∷ number s.key ∷ mark (codes ":") ∷ number s.step ∷ number s.from ∷ number s.to ∷ number s.dest ∷ number s.amount ∷ []
+call_tokens (HandOut key) = word (codes "hand") ∷ word (codes "out") ∷ number key ∷ []
+call_tokens (Pay key) = word (codes "pay") ∷ number key ∷ []
+call_tokens (WhereIs key) = word (codes "where") ∷ word (codes "is") ∷ number key ∷ []
+call_tokens (Here from) = word (codes "here") ∷ word (codes "from") ∷ number from ∷ []
+call_tokens Sums = word (codes "sums") ∷ []
 
--- a line that says something
-abbrev pub line_form : Line → Form → Form
-line_form Blank then = λ bs. ⊥
-line_form (Opening offices parcels) then =
-    number offices (word (codes "offices") (mark (codes ",") (number parcels (word (codes "parcels") then))))
-line_form (Call at call) then = word (codes "at") (number at (mark (codes ":") (call_form call then)))
-line_form (Bytes at bytes) then = word (codes "at") (number at (mark (codes ":") (word (codes "bytes") (AreBytes bytes.items))))
-line_form (Tick at) then = word (codes "at") (number at (mark (codes ":") (word (codes "tick") then)))
-line_form AllTick then = word (codes "all") (word (codes "clocks") (word (codes "tick") then))
-line_form (Letter n) then = word (codes "letter") (number n (word (codes "comes") then))
-line_form AllLetters then = word (codes "all") (word (codes "letters") (word (codes "come") then))
-line_form AllLettersLastFirst then =
-    word (codes "all") (word (codes "letters") (word (codes "come") (mark (codes ",") (word (codes "the") (word (codes "last") (word (codes "first") then))))))
+-- a line
+abbrev pub line_tokens : Line → List Token
+line_tokens Blank = []
+line_tokens (Opening offices parcels) = number offices ∷ word (codes "offices") ∷ mark (codes ",") ∷ number parcels ∷ word (codes "parcels") ∷ []
+line_tokens (Call at call) = word (codes "at") ∷ number at ∷ mark (codes ":") ∷ call_tokens call
+line_tokens (Bytes at bytes) = word (codes "at") ∷ number at ∷ mark (codes ":") ∷ word (codes "bytes") ∷ byte_tokens bytes.items
+line_tokens (Tick at) = word (codes "at") ∷ number at ∷ mark (codes ":") ∷ word (codes "tick") ∷ []
+line_tokens AllTick = word (codes "all") ∷ word (codes "clocks") ∷ word (codes "tick") ∷ []
+line_tokens (Letter n) = word (codes "letter") ∷ number n ∷ word (codes "comes") ∷ []
+line_tokens AllLetters = word (codes "all") ∷ word (codes "letters") ∷ word (codes "come") ∷ []
+line_tokens AllLettersLastFirst =
+    word (codes "all") ∷ word (codes "letters") ∷ word (codes "come") ∷ mark (codes ",") ∷ word (codes "the") ∷ word (codes "last") ∷ word (codes "first") ∷ []
 
--- where a line's first word was taken, and this is left: it is written so from that word on
-abbrev pub FromWord : List ℕ → List ℕ → Form → Type 0
-FromWord w left form = (bs : List ℕ) → take_while is_ascii_alphabetic bs ≡ w → behind is_ascii_alphabetic bs ≡ left → form bs
-
--- a whole line says this: nothing, or what is written from its first byte that is no blank up to its end
+-- a whole line says this: nothing, or what its tokens are, from its first byte that is no blank up to its end
 abbrev pub Says : List ℕ → Line → Type 0
-Says bs line = ((line ≡ Blank) × (is_blank_line bs ≡ true)) ⊎ line_form line (λ left. length left ≡ 0) (without_blanks bs)
+Says bs line = ((line ≡ Blank) × (is_blank_line bs ≡ true)) ⊎ Stand (line_tokens line) (without_blanks bs) []
+
+-- a line says nothing that can be read
+abbrev pub IsNoLine : List ℕ → Type 0
+IsNoLine bs = (line : Line) → Says bs line → ⊥
+
+-- what a line says, wherever its bytes lie in memory: these bytes at an office, or what the line itself is
+pub data Content : Type 0 where
+  bytes_at : ℕ → List ℕ → Content
+  itself : Line → Content
+
+abbrev pub content : Line → Content
+content (Bytes at bytes) = bytes_at at bytes.items
+content line = itself line
+
+-- no two lines that say different things are written with the same bytes
+abbrev pub OnlyLine : List ℕ → Type 0
+OnlyLine bs = (x y : Line) → Says bs x → Says bs y → content x ≡ content y
+
+-- FOR THE READER'S OWN FUNCTIONS
+
+-- the first word of a call
+abbrev pub name_word : CallName → List ℕ
+name_word NAccept = codes "accept"
+name_word NSend = codes "send"
+name_word NSlip = codes "slip"
+name_word NTake = codes "take"
+name_word NHand = codes "hand"
+name_word NPay = codes "pay"
+name_word NWhere = codes "where"
+name_word NHere = codes "here"
+name_word NSums = codes "sums"
+
+-- the first word of what is done at an office
+abbrev pub deed_word : Deed → List ℕ
+deed_word (DCall name) = name_word name
+deed_word DBytes = codes "bytes"
+deed_word DTick = codes "tick"
+
+-- where a word was taken, these tokens go on behind it
+abbrev pub GoOn : List ℕ → List Token → List ℕ → List ℕ → Type 0
+GoOn w [] bs left = ⊥
+GoOn w (word v ∷ ts) bs left = (w ≡ v) × Stand ts bs left
+GoOn w (t ∷ ts) bs left = ⊥
+
+-- where "at", this office's number and ":" were taken, a line goes on behind them
+abbrev pub GoOnAt : ℕ → Line → List ℕ → List ℕ → Type 0
+GoOnAt at (Call o call) bs left = (at ≡ o) × Stand (call_tokens call) bs left
+GoOnAt at (Bytes o bytes) bs left = (at ≡ o) × Stand (word (codes "bytes") ∷ byte_tokens bytes.items) bs left
+GoOnAt at (Tick o) bs left = (at ≡ o) × Stand (word (codes "tick") ∷ []) bs left
+GoOnAt at line bs left = ⊥
+
+-- what was read is this line, or memory was wanting
+abbrev pub IsRead : Line → Result Line Fault → Type 0
+IsRead line (Ok read) = content read ≡ content line
+IsRead line (Err fault) = fault ≡ NoMemory

@@ -1,7 +1,7 @@
 -- How a line is cut into tokens: words, numbers and marks.
 use Rattle.std.specs.Prelude.{◌≡◌, ℕ, ◌^◌, ◌<◌, Bool, true, false, ◌||◌, List, [], ◌∷◌, length, drop, ◌==◌}
-use Rattle.std.specs.Char.{is_ascii_digit}
-use Rattle.std.specs.List.{prefix_len, take_while}
+use Rattle.std.specs.Char.{is_ascii_alphabetic, is_ascii_digit}
+use Rattle.std.specs.List.{prefix_len, take_while, starts_with}
 use Rattle.lines.specs.Decimal.{value_of}
 
 -- each answer at a byte is that of a test
@@ -37,7 +37,22 @@ HasNumberBelow bound bs = (first_passes is_ascii_digit bs ≡ true) × (first_nu
 abbrev pub is_blank_line : List ℕ → Bool
 is_blank_line bs = length (without_blanks bs) == 0 || first_passes (λ b. b == 35) (without_blanks bs)
 
--- these numbers, each below 256, stand one behind the other up to the end
-abbrev pub AreBytes : List ℕ → List ℕ → Type 0
-AreBytes [] bs = length bs ≡ 0
-AreBytes (v ∷ vs) bs = HasNumberBelow (2 ^ 8) bs × (first_number bs ≡ v) × AreBytes vs (behind is_ascii_digit bs)
+-- a token: a word of these letters, a number that four bytes hold, one that a byte holds, or a mark
+pub data Token : Type 0 where
+  word : List ℕ → Token
+  number : ℕ → Token
+  byte : ℕ → Token
+  mark : List ℕ → Token
+
+-- these tokens stand at the front, one behind the other, and then this is left
+abbrev pub Stand : List Token → List ℕ → List ℕ → Type 0
+Stand [] bs left = bs ≡ left
+Stand (word w ∷ ts) bs left = (take_while is_ascii_alphabetic bs ≡ w) × Stand ts (behind is_ascii_alphabetic bs) left
+Stand (number n ∷ ts) bs left = HasNumberBelow (2 ^ 32) bs × (first_number bs ≡ n) × Stand ts (behind is_ascii_digit bs) left
+Stand (byte n ∷ ts) bs left = HasNumberBelow (2 ^ 8) bs × (first_number bs ≡ n) × Stand ts (behind is_ascii_digit bs) left
+Stand (mark m ∷ ts) bs left = (starts_with ◌==◌ bs m ≡ true) × Stand ts (without_blanks (drop (length m) bs)) left
+
+-- bytes, each as a number
+abbrev pub byte_tokens : List ℕ → List Token
+byte_tokens [] = []
+byte_tokens (v ∷ vs) = byte v ∷ byte_tokens vs

@@ -1,10 +1,17 @@
 // Lines of a world file, which says what happens at a post's offices.
 #![tactic(auto)]
 
-ghost use Rattle.std.specs.Prelude.{◌≡◌, ◌↔◌, IsTrue, IfOk, Ok, codes};
-ghost use Rattle.lines.specs.Tokens.{is_blank_line};
-ghost use Rattle.lines.specs.Forms.{call_form, line_form, FromWord, Says};
-ghost use Rattle.lines.specs.declared.Line.TheVariants.{Blank};
+ghost use Rattle.std.specs.Prelude.{◌≡◌, ◌≢◌, ◌↔◌, ◌⊎◌, ℕ, IsTrue, IfOk, IfErr, IfSome, IfNone, Ok, List, [], drop, codes};
+ghost use Rattle.lines.specs.Tokens.{is_blank_line, Stand};
+ghost use Rattle.lines.specs.Forms.{name_word, deed_word, call_tokens, line_tokens, GoOn, GoOnAt, Says, IsNoLine, OnlyLine, IsRead};
+ghost use Rattle.lines.specs.declared.CallName.{CallName};
+ghost use Rattle.lines.specs.declared.Deed.{Deed};
+ghost use Rattle.lines.specs.declared.Line.{Line};
+ghost use Rattle.lines.specs.declared.Line.TheVariants.{Blank, Opening};
+ghost use Rattle.lines.specs.declared.fault.Fault.TheVariants.{NoMemory};
+ghost use Rattle.parcels.specs.declared.Call.{Call};
+ghost use Rattle.parcels.specs.declared.Call.TheVariants.{Accept, Send, TakeIn};
+ghost use Rattle.parcels.specs.declared.Slip.{Slip};
 
 mod fault;
 mod reader;
@@ -32,9 +39,12 @@ pub enum Line {
 }
 
 // Reads one line, which is given without its newline and may hold any bytes.
+#[tactic(auto, using(crate::proofs::Unique::only_line))]
 pub fn read_line(heap: Global, line: &[u8]) -> Result<Line, Fault>
     ensures blank { (result ≡ Ok Blank) ↔ IsTrue (is_blank_line line.now) }
     ensures value { IfOk result (Says line.now) }
+    ensures only { IfErr result (λ fault. fault ≡ NoMemory ⊎ IsNoLine line.now) }
+    ensures unique { OnlyLine line.now }
 {
     let mut reader = Reader::new(heap, line);
     if reader.at_end() || reader.at_comment() {
@@ -45,8 +55,11 @@ pub fn read_line(heap: Global, line: &[u8]) -> Result<Line, Fault>
     Ok(line)
 }
 
+// The line that begins here, where something is left to read.
 fn read_form(reader: &mut Reader) -> Result<Line, Fault>
-    ensures { IfOk result (λ line. line_form line (λ left. left ≡ reader.new) reader.old) }
+    requires { reader.old ≢ [] }
+    ensures value { IfOk result (λ line. Stand (line_tokens line) reader.old reader.new) }
+    ensures reads { (line : Line) → Stand (line_tokens line) reader.old [] → IsRead line result }
 {
     if reader.at_number() {
         return read_opening(reader);
@@ -67,7 +80,8 @@ fn read_form(reader: &mut Reader) -> Result<Line, Fault>
 
 // 3 offices, 8 parcels
 fn read_opening(reader: &mut Reader) -> Result<Line, Fault>
-    ensures { IfOk result (λ line. line_form line (λ left. left ≡ reader.new) reader.old) }
+    ensures value { IfOk result (λ line. Stand (line_tokens line) reader.old reader.new) }
+    ensures reads { (offices parcels : ℕ) → Stand (line_tokens (Opening offices parcels)) reader.old [] → result ≡ Ok (Opening offices parcels) }
 {
     let offices = reader.number()?;
     reader.expect("offices")?;
@@ -79,88 +93,161 @@ fn read_opening(reader: &mut Reader) -> Result<Line, Fault>
 
 // What stands after 'all': clocks tick, letters come, or letters come, the last first
 fn read_all(reader: &mut Reader) -> Result<Line, Fault>
-    ensures { IfOk result (λ line. FromWord (codes "all") reader.old (line_form line (λ left. left ≡ reader.new))) }
+    ensures value { IfOk result (λ line. GoOn (codes "all") (line_tokens line) reader.old reader.new) }
+    ensures reads { (line : Line) → GoOn (codes "all") (line_tokens line) reader.old [] → result ≡ Ok line }
 {
     match reader.word() {
         b"clocks" => {
             reader.expect("tick")?;
             Ok(Line::AllTick)
         }
-        b"letters" => {
-            reader.expect("come")?;
-            if !reader.take(",") {
-                return Ok(Line::AllLetters);
-            }
-            reader.expect("the")?;
-            reader.expect("last")?;
-            reader.expect("first")?;
-            Ok(Line::AllLettersLastFirst)
-        }
+        b"letters" => read_letters(reader),
         _ => Err(Fault::Expected("'clocks' or 'letters'")),
     }
 }
 
+// What stands after 'all letters'.
+fn read_letters(reader: &mut Reader) -> Result<Line, Fault>
+    ensures value { IfOk result (λ line. GoOn (codes "letters") (drop 1 (line_tokens line)) reader.old reader.new) }
+    ensures reads { (line : Line) → GoOn (codes "letters") (drop 1 (line_tokens line)) reader.old [] → result ≡ Ok line }
+{
+    reader.expect("come")?;
+    if !reader.take(",") {
+        return Ok(Line::AllLetters);
+    }
+    reader.expect("the")?;
+    reader.expect("last")?;
+    reader.expect("first")?;
+    Ok(Line::AllLettersLastFirst)
+}
+
 // What stands after 'at'.
 fn read_at(reader: &mut Reader) -> Result<Line, Fault>
-    ensures { IfOk result (λ line. FromWord (codes "at") reader.old (line_form line (λ left. left ≡ reader.new))) }
+    ensures value { IfOk result (λ line. GoOn (codes "at") (line_tokens line) reader.old reader.new) }
+    ensures reads { (line : Line) → GoOn (codes "at") (line_tokens line) reader.old [] → IsRead line result }
 {
     let at = reader.number()?;
     reader.expect_mark(":")?;
-    match reader.word() {
-        b"tick" => Ok(Line::Tick { at }),
-        b"bytes" => {
-            let bytes = reader.bytes()?;
-            Ok(Line::Bytes { at, bytes })
-        }
-        name => {
+    read_at_office(at, reader)
+}
+
+// What stands after 'at', an office's number and ':'.
+fn read_at_office(at: u32, reader: &mut Reader) -> Result<Line, Fault>
+    ensures value { IfOk result (λ line. GoOnAt at line reader.old reader.new) }
+    ensures reads { (line : Line) → GoOnAt at line reader.old [] → IsRead line result }
+{
+    match Deed::read(reader.word()) {
+        Some(Deed::Call(name)) => {
             let call = read_call(name, reader)?;
             Ok(Line::Call { at, call })
         }
-    }
-}
-
-// The call of which `name` is the first word, and which the reader goes on with.
-fn read_call(name: &[u8], reader: &mut Reader) -> Result<Call, Fault>
-    ensures { IfOk result (λ call. FromWord name.now reader.old (call_form call (λ left. left ≡ reader.new))) }
-{
-    match name {
-        b"accept" => read_accept(reader),
-        b"send" => read_send(reader),
-        b"slip" => Ok(Call::SlipAgain {
-            key: reader.number()?,
-        }),
-        b"take" => read_take_in(reader),
-        b"hand" => {
-            reader.expect("out")?;
-            Ok(Call::HandOut {
-                key: reader.number()?,
-            })
+        Some(Deed::Bytes) => {
+            let bytes = reader.bytes()?;
+            Ok(Line::Bytes { at, bytes })
         }
-        b"pay" => Ok(Call::Pay {
-            key: reader.number()?,
-        }),
-        b"where" => {
-            reader.expect("is")?;
-            Ok(Call::WhereIs {
-                key: reader.number()?,
-            })
-        }
-        b"here" => {
-            reader.expect("from")?;
-            Ok(Call::Here {
-                from: reader.number()?,
-            })
-        }
-        b"sums" => Ok(Call::Sums),
-        _ => Err(Fault::Expected(
+        Some(Deed::Tick) => Ok(Line::Tick { at }),
+        None => Err(Fault::Expected(
             "accept, send, slip, take in, hand out, pay, where is, here, sums, bytes or tick",
         )),
     }
 }
 
+// The first word of what is done at an office.
+#[derive(Clone, Copy)]
+enum Deed {
+    Call(CallName),
+    Bytes,
+    Tick,
+}
+
+impl Deed {
+    fn read(word: &[u8]) -> Option<Deed>
+        ensures value { IfSome result (λ deed. word.now ≡ deed_word deed) }
+        ensures only { IfNone result ((deed : Deed) → word.now ≢ deed_word deed) }
+    {
+        match word {
+            b"bytes" => Some(Deed::Bytes),
+            b"tick" => Some(Deed::Tick),
+            _ => Some(Deed::Call(CallName::read(word)?)),
+        }
+    }
+}
+
+// The first word of a call.
+#[derive(Clone, Copy)]
+enum CallName {
+    Accept,
+    Send,
+    Slip,
+    Take,
+    Hand,
+    Pay,
+    Where,
+    Here,
+    Sums,
+}
+
+impl CallName {
+    fn read(word: &[u8]) -> Option<CallName>
+        ensures value { IfSome result (λ name. word.now ≡ name_word name) }
+        ensures only { IfNone result ((name : CallName) → word.now ≢ name_word name) }
+    {
+        Some(match word {
+            b"accept" => CallName::Accept,
+            b"send" => CallName::Send,
+            b"slip" => CallName::Slip,
+            b"take" => CallName::Take,
+            b"hand" => CallName::Hand,
+            b"pay" => CallName::Pay,
+            b"where" => CallName::Where,
+            b"here" => CallName::Here,
+            b"sums" => CallName::Sums,
+            _ => return None,
+        })
+    }
+}
+
+// The call with this first word, from what stands behind it.
+fn read_call(name: CallName, reader: &mut Reader) -> Result<Call, Fault>
+    ensures value { IfOk result (λ call. GoOn (name_word name) (call_tokens call) reader.old reader.new) }
+    ensures reads { (call : Call) → GoOn (name_word name) (call_tokens call) reader.old [] → result ≡ Ok call }
+{
+    match name {
+        CallName::Accept => read_accept(reader),
+        CallName::Send => read_send(reader),
+        CallName::Slip => Ok(Call::SlipAgain {
+            key: reader.number()?,
+        }),
+        CallName::Take => read_take_in(reader),
+        CallName::Hand => {
+            reader.expect("out")?;
+            Ok(Call::HandOut {
+                key: reader.number()?,
+            })
+        }
+        CallName::Pay => Ok(Call::Pay {
+            key: reader.number()?,
+        }),
+        CallName::Where => {
+            reader.expect("is")?;
+            Ok(Call::WhereIs {
+                key: reader.number()?,
+            })
+        }
+        CallName::Here => {
+            reader.expect("from")?;
+            Ok(Call::Here {
+                from: reader.number()?,
+            })
+        }
+        CallName::Sums => Ok(Call::Sums),
+    }
+}
+
 // accept for 2, 50
 fn read_accept(reader: &mut Reader) -> Result<Call, Fault>
-    ensures { IfOk result (λ call. FromWord (codes "accept") reader.old (call_form call (λ left. left ≡ reader.new))) }
+    ensures value { IfOk result (λ call. GoOn (codes "accept") (call_tokens call) reader.old reader.new) }
+    ensures reads { (dest amount : ℕ) → GoOn (codes "accept") (call_tokens (Accept dest amount)) reader.old [] → result ≡ Ok (Accept dest amount) }
 {
     reader.expect("for")?;
     let dest = reader.number()?;
@@ -171,7 +258,8 @@ fn read_accept(reader: &mut Reader) -> Result<Call, Fault>
 
 // send 0 to 1
 fn read_send(reader: &mut Reader) -> Result<Call, Fault>
-    ensures { IfOk result (λ call. FromWord (codes "send") reader.old (call_form call (λ left. left ≡ reader.new))) }
+    ensures value { IfOk result (λ call. GoOn (codes "send") (call_tokens call) reader.old reader.new) }
+    ensures reads { (key to : ℕ) → GoOn (codes "send") (call_tokens (Send key to)) reader.old [] → result ≡ Ok (Send key to) }
 {
     let key = reader.number()?;
     reader.expect("to")?;
@@ -181,7 +269,8 @@ fn read_send(reader: &mut Reader) -> Result<Call, Fault>
 
 // take in 0: 1 0 1 2 50, where the numbers are key, step, from, to, dest and amount
 fn read_take_in(reader: &mut Reader) -> Result<Call, Fault>
-    ensures { IfOk result (λ call. FromWord (codes "take") reader.old (call_form call (λ left. left ≡ reader.new))) }
+    ensures value { IfOk result (λ call. GoOn (codes "take") (call_tokens call) reader.old reader.new) }
+    ensures reads { (slip : Slip) → GoOn (codes "take") (call_tokens (TakeIn slip)) reader.old [] → result ≡ Ok (TakeIn slip) }
 {
     reader.expect("in")?;
     let key = reader.number()?;

@@ -1,12 +1,12 @@
 // Cuts a line into tokens: words (runs of letters), numbers (runs of digits) and marks.
-ghost use Rattle.std.specs.Prelude.{◌≡◌, ℕ, ◌+◌, ◌^◌, ◌<◌, ◌≤◌, ◌↔◌, Bool, false, List, drop, length, IsTrue, IsOk, IfOk, IfErr, OnOk, ◌==◌, ◌⊎◌, cond};
+ghost use Rattle.std.specs.Prelude.{◌≡◌, ℕ, ◌+◌, ◌^◌, ◌<◌, ◌≤◌, ◌↔◌, Bool, false, List, [], drop, length, IsTrue, IsOk, IfOk, OnOk, MatchResult, ◌==◌, cond};
 ghost use Rattle.std.specs.Char.{is_ascii_alphabetic, is_ascii_digit};
 ghost use Rattle.std.specs.Fn.{FnReturnsAt};
 ghost use Rattle.std.specs.List.{prefix_len, take_while, starts_with};
 ghost use Rattle.std.specs.Option.{SomeIff};
 ghost use Rattle.std.specs.Result.{OkIff};
 ghost use Rattle.lines.specs.Decimal.{value_of};
-ghost use Rattle.lines.specs.Tokens.{AnswersAs, first_passes, is_blank, without_blanks, behind, first_number, HasNumberBelow, AreBytes};
+ghost use Rattle.lines.specs.Tokens.{AnswersAs, first_passes, is_blank, without_blanks, behind, first_number, HasNumberBelow, Stand, byte_tokens};
 ghost use Rattle.lines.specs.declared.fault.Fault.TheVariants.{NoMemory};
 
 use crate::fault::Fault;
@@ -155,7 +155,7 @@ impl<'a> Reader<'a> {
     }
 
     pub fn end(&self) -> Result<(), Fault>
-        ensures { IsOk result ↔ (length self.now ≡ 0) }
+        ensures { IsOk result ↔ (self.now ≡ []) }
     {
         self.at_end()
             .then_some(())
@@ -184,9 +184,8 @@ impl<'a> Reader<'a> {
 
     // Takes bytes up to the line's end.
     pub fn bytes(&mut self) -> Result<Vec<u8>, Fault>
-        ensures value { IfOk result (λ bytes. AreBytes bytes.items self.old) }
-        ensures only { IfErr result (λ fault. fault ≡ NoMemory ⊎ ((values : List ℕ) → ¬ (AreBytes values self.old))) }
-        ensures after { OnOk result (length self.new ≡ 0) }
+        ensures value { IfOk result (λ bytes. Stand (byte_tokens bytes.items) self.old self.new) }
+        ensures reads { (values : List ℕ) → Stand (byte_tokens values) self.old [] → MatchResult result (λ bytes. bytes.items ≡ values) (λ fault. fault ≡ NoMemory) }
     {
         let mut bytes = Vec::new(self.heap);
         while !self.at_end() {
