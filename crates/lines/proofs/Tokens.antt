@@ -3,7 +3,7 @@ use Rattle.std.proofs.Common.{◌≡◌, ℕ, suc, ◌+◌, Bool, true, false, L
 use Rattle.std.specs.List.{prefix_len}
 use Rattle.lines.specs.Tokens.{first_passes, is_blank, without_blanks}
 
-drop-one_more : (n b : ℕ) (bs : List ℕ) → drop (1 + n) (b ∷ bs) ≡ drop n bs
+pub drop-one_more : (n b : ℕ) (bs : List ℕ) → drop (1 + n) (b ∷ bs) ≡ drop n bs
 drop-one_more n b bs = let e : 1 + n ≡ suc n = omega arith in rw e refl
 
 none_first_by : (test : ℕ → Bool) (b : ℕ) (bs : List ℕ) (v : Bool) → test b ≡ v → first_passes test (drop (prefix_len test bs) bs) ≡ false → first_passes test (drop (prefix_len test (b ∷ bs)) (b ∷ bs)) ≡ false

@@ -1,11 +1,11 @@
 -- No two lines that say different things are written with the same bytes.
-use Rattle.std.proofs.Common.{◌≡◌, ℕ, ◌<◌, Bool, true, false, ◌||◌, List, [], ◌∷◌, length, codes, cond, refl, sym, ap, ◌∙◌, subst, arith, ◌==◌, inl, inr}
+use Rattle.std.proofs.Common.{◌≡◌, ℕ, ◌<◌, Bool, true, false, ◌||◌, List, [], ◌∷◌, length, codes, cond, refl, sym, ap, ◌∙◌, subst, arith, ◌==◌, inl, inr, Ok}
 use Rattle.std.proofs.lemmas.Bool.{false≢true}
 use Rattle.std.proofs.lemmas.Bool.Decides.{nat_tests}
 use Rattle.std.specs.Char.{is_ascii_alphabetic, is_ascii_digit}
 use Rattle.std.specs.List.{take_while, starts_with}
 use Rattle.lines.specs.Tokens.{first_passes, without_blanks, first_number, is_blank_line, Token, word, number, byte, mark, Stand, byte_tokens}
-use Rattle.lines.specs.Forms.{call_tokens, line_tokens, name_word, Content, bytes_at, itself, content, OnlyLine}
+use Rattle.lines.specs.Forms.{call_tokens, line_tokens, name_word, Content, bytes_at, itself, content, OnlyLine, Reads}
 use Rattle.lines.specs.declared.CallName.{CallName}
 use Rattle.lines.specs.declared.CallName.TheVariants.{Accept as NAccept, Send as NSend, Slip as NSlip, Take as NTake, Hand as NHand, Pay as NPay, Where as NWhere, Here as NHere, Sums as NSums}
 use Rattle.lines.specs.declared.Line.{Line}
@@ -175,3 +175,6 @@ only_line bs x y (inr g) (inr h) = stand_only x y (without_blanks bs) g h
 -- behind what was read nothing is left where the bytes say the same up to their end
 pub none_left : (x y : Line) (bs left : List ℕ) → Stand (line_tokens x) bs left → content x ≡ content y → Stand (line_tokens y) bs [] → left ≡ []
 none_left x y bs left g e h = left_only (line_tokens y) bs left [] (subst (λ ts. Stand ts bs left) (same_tokens x y e) g) h
+
+pub blank_reads : (bs : List ℕ) → is_blank_line bs ≡ true → Reads bs (Ok Blank)
+blank_reads bs e line says = only_line bs Blank line (inl (refl, e)) says

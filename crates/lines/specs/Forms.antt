@@ -59,6 +59,16 @@ content line = itself line
 abbrev pub OnlyLine : List ℕ → Type 0
 OnlyLine bs = (x y : Line) → Says bs x → Says bs y → content x ≡ content y
 
+-- what was read is this line; only where there are bytes to keep can memory be wanting
+abbrev pub IsRead : Line → Result Line Fault → Type 0
+IsRead line (Ok read) = content read ≡ content line
+IsRead (Bytes at bytes) (Err fault) = fault ≡ NoMemory
+IsRead line (Err fault) = ⊥
+
+-- what a line says is read, whatever it is
+abbrev pub Reads : List ℕ → Result Line Fault → Type 0
+Reads bs r = (line : Line) → Says bs line → IsRead line r
+
 -- FOR THE READER'S OWN FUNCTIONS
 
 -- the first word of a call
@@ -91,8 +101,3 @@ GoOnAt at (Call o call) bs left = (at ≡ o) × Stand (call_tokens call) bs left
 GoOnAt at (Bytes o bytes) bs left = (at ≡ o) × Stand (word (codes "bytes") ∷ byte_tokens bytes.items) bs left
 GoOnAt at (Tick o) bs left = (at ≡ o) × Stand (word (codes "tick") ∷ []) bs left
 GoOnAt at line bs left = ⊥
-
--- what was read is this line, or memory was wanting
-abbrev pub IsRead : Line → Result Line Fault → Type 0
-IsRead line (Ok read) = content read ≡ content line
-IsRead line (Err fault) = fault ≡ NoMemory

@@ -2,3 +2,4 @@ pub mod Decimal
 pub mod Faults
 pub mod Tokens
 pub mod Forms
+pub mod Texts

@@ -3,7 +3,8 @@
 
 ghost use Rattle.std.specs.Prelude.{◌≡◌, ◌≢◌, ◌↔◌, ◌⊎◌, ℕ, IsTrue, IfOk, IfErr, IfSome, IfNone, Ok, List, [], drop, codes};
 ghost use Rattle.lines.specs.Tokens.{is_blank_line, Stand};
-ghost use Rattle.lines.specs.Forms.{name_word, deed_word, call_tokens, line_tokens, GoOn, GoOnAt, Says, IsNoLine, OnlyLine, IsRead};
+ghost use Rattle.lines.specs.Forms.{name_word, deed_word, call_tokens, line_tokens, GoOn, GoOnAt, Says, IsNoLine, OnlyLine, IsRead, Reads};
+ghost use Rattle.lines.specs.Texts.{ReadsWritten};
 ghost use Rattle.lines.specs.declared.CallName.{CallName};
 ghost use Rattle.lines.specs.declared.Deed.{Deed};
 ghost use Rattle.lines.specs.declared.Line.{Line};
@@ -15,6 +16,7 @@ ghost use Rattle.parcels.specs.declared.Slip.{Slip};
 
 mod fault;
 mod reader;
+mod text;
 
 pub use fault::Fault;
 use parcels::{Call, Slip};
@@ -39,18 +41,29 @@ pub enum Line {
 }
 
 // Reads one line, which is given without its newline and may hold any bytes.
-#[tactic(auto, using(crate::proofs::Unique::only_line))]
+#[tactic(auto, using(crate::proofs::Unique::only_line, crate::proofs::Only::only_where, crate::proofs::Back::reads_written))]
 pub fn read_line(heap: Global, line: &[u8]) -> Result<Line, Fault>
     ensures blank { (result ≡ Ok Blank) ↔ IsTrue (is_blank_line line.now) }
     ensures value { IfOk result (Says line.now) }
+    ensures reads { Reads line.now result }
     ensures only { IfErr result (λ fault. fault ≡ NoMemory ⊎ IsNoLine line.now) }
     ensures unique { OnlyLine line.now }
+    ensures written { ReadsWritten line.now result }
 {
     let mut reader = Reader::new(heap, line);
     if reader.at_end() || reader.at_comment() {
         return Ok(Line::Blank);
     }
-    let line = read_form(&mut reader)?;
+    read_whole(&mut reader)
+}
+
+// The line that begins here and ends where nothing is left.
+fn read_whole(reader: &mut Reader) -> Result<Line, Fault>
+    requires { reader.old ≢ [] }
+    ensures value { IfOk result (λ line. Stand (line_tokens line) reader.old []) }
+    ensures reads { (line : Line) → Stand (line_tokens line) reader.old [] → IsRead line result }
+{
+    let line = read_form(reader)?;
     reader.end()?;
     Ok(line)
 }
