@@ -1,10 +1,11 @@
 -- Answers and steps as text: the bytes that are written.
-use Rattle.std.specs.Prelude.{ℕ, List, [], ◌∷◌, ◌++◌, codes, decimal}
-use Rattle.parcels.specs.Numbers.{answer_values}
+use Rattle.std.specs.Prelude.{ℕ, List, ◌++◌, codes, decimal}
+use Rattle.parcels.specs.Numbers.{reason_number, kind_number}
 use Rattle.parcels.specs.declared.Answer.{Answer}
 use Rattle.parcels.specs.declared.Answer.TheVariants.{Refused, Number, Given, At, NothingHeard, Two}
 use Rattle.parcels.specs.declared.Kind.{Kind}
 use Rattle.parcels.specs.declared.Kind.TheVariants.{Accepted, SentOn, ComeIn, HandedOut}
+use Rattle.parcels.specs.declared.Slip.{Slip}
 use Rattle.parcels.specs.declared.Step.{Step}
 
 -- what a step did
@@ -19,22 +20,16 @@ abbrev pub located_text : ℕ → Step → List ℕ
 located_text key s =
     decimal key ++ (codes ": step " ++ (decimal s.number ++ (codes ", " ++ (kind_text s.kind ++ (codes " at " ++ decimal s.office)))))
 
--- the words before each value of an answer, or alone where it has none
-abbrev pub answer_words : Answer → List (List ℕ)
-answer_words (Refused r) = codes "refused " ∷ (codes " at " ∷ [])
-answer_words (Number n) = codes "" ∷ []
-answer_words (Given s) = codes "slip " ∷ (codes ": " ∷ (codes " " ∷ (codes " " ∷ (codes " " ∷ (codes " " ∷ [])))))
-answer_words (At s) = codes "step " ∷ (codes ", kind " ∷ (codes ", office " ∷ []))
-answer_words NothingHeard = codes "nothing heard" ∷ []
-answer_words (Two a b) = codes "" ∷ (codes " " ∷ [])
+-- a slip, from its key on
+abbrev pub slip_text : Slip → List ℕ
+slip_text s =
+    decimal s.key ++ (codes ": " ++ (decimal s.step ++ (codes " " ++ (decimal s.from ++ (codes " " ++ (decimal s.to ++ (codes " " ++ (decimal s.dest ++ (codes " " ++ decimal s.amount)))))))))
 
--- words, each with its value behind it
-abbrev pub with_values : List (List ℕ) → List ℕ → List ℕ
-with_values [] vs = []
-with_values (w ∷ ws) [] = w
-with_values (w ∷ []) (v ∷ vs) = w ++ decimal v
-with_values (w ∷ (x ∷ ws)) (v ∷ vs) = w ++ (decimal v ++ with_values (x ∷ ws) vs)
-
--- an answer: its values, with words before them
+-- each answer
 abbrev pub answer_text : Answer → List ℕ
-answer_text a = with_values (answer_words a) (answer_values a)
+answer_text (Refused r) = codes "refused " ++ (decimal (reason_number r.reason) ++ (codes " at " ++ decimal r.place))
+answer_text (Number n) = decimal n
+answer_text (Given s) = codes "slip " ++ slip_text s
+answer_text (At s) = codes "step " ++ (decimal s.number ++ (codes ", kind " ++ (decimal (kind_number s.kind) ++ (codes ", office " ++ decimal s.office))))
+answer_text NothingHeard = codes "nothing heard"
+answer_text (Two a b) = decimal a ++ (codes " " ++ decimal b)
