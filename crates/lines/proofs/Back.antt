@@ -105,9 +105,9 @@ runs-append test (b ∷ (c ∷ bs)) d h e =
 glyph : (n : ℕ) → n < 10 → is_ascii_digit (48 + n) ≡ true
 glyph n h = grind (arith, nat_tests)
 
-one_digit : (n : ℕ) → n < 10 → Digits n ((48 + n) ∷ [])
+single_digit : (n : ℕ) → n < 10 → Digits n ((48 + n) ∷ [])
 unfolding runs
-one_digit n h = record { digits = glyph n h; value = omega arith }
+single_digit n h = record { digits = glyph n h; value = omega arith }
 
 more_digits : (n : ℕ) (ds : List ℕ) → 10 ≤ n → Digits (n / 10) ds → Digits n (ds ++ ((48 + n % 10) ∷ []))
 more_digits n ds h front =
@@ -118,7 +118,7 @@ more_digits n ds h front =
     }
 
 decimal_digits : (n : ℕ) → n < 2 ^ 32 → Digits n (decimal n)
-decimal_digits n h = decimal_by_steps Digits one_digit more_digits n (omega arith)
+decimal_digits n h = decimal_by_steps Digits single_digit more_digits n (omega arith)
 
 -- what stands where a word, a number or a mark was written
 word_stands : (w : List ℕ) (ts : List Token) → good (word w ∷ ts) ≡ true → Stand ts (without_blanks (rest_text ts)) [] → Stand (word w ∷ ts) (w ++ rest_text ts) []

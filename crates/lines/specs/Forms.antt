@@ -42,15 +42,16 @@ line_tokens AllLettersLastFirst =
 abbrev pub Says : List ℕ → Line → Type 0
 Says bs line = ((line ≡ Blank) × (is_blank_line bs ≡ true)) ⊎ Stand (line_tokens line) (without_blanks bs) []
 
--- a line says nothing that can be read
+-- no line is written with these bytes
 abbrev pub IsNoLine : List ℕ → Type 0
 IsNoLine bs = (line : Line) → Says bs line → ⊥
 
--- what a line says, wherever its bytes lie in memory: these bytes at an office, or what the line itself is
+-- what is said, wherever the bytes that it takes lie in memory: these bytes at an office, or what a line itself is
 pub data Content : Type 0 where
   bytes_at : ℕ → List ℕ → Content
   itself : Line → Content
 
+-- what a line says
 abbrev pub content : Line → Content
 content (Bytes at bytes) = bytes_at at bytes.items
 content line = itself line
@@ -65,7 +66,7 @@ IsRead line (Ok read) = content read ≡ content line
 IsRead (Bytes at bytes) (Err fault) = fault ≡ NoMemory
 IsRead line (Err fault) = ⊥
 
--- what a line says is read, whatever it is
+-- each line that these bytes say is what was read
 abbrev pub Reads : List ℕ → Result Line Fault → Type 0
 Reads bs r = (line : Line) → Says bs line → IsRead line r
 
