@@ -1,4 +1,4 @@
-// What each form of line is read as, how each bad line is refused, and how answers are written.
+// What each form of line is read as and written as, how each bad line is refused, and how answers are written.
 #![tactic(auto)]
 
 #[cfg(test)]
@@ -9,3 +9,5 @@ mod bad_lines;
 mod good_lines;
 #[cfg(test)]
 mod shown;
+#[cfg(test)]
+mod written_lines;
