@@ -15,7 +15,7 @@ use Rattle.parcels.specs.declared.Reason.TheVariants.{WrongSlip, NothingToPay}
 use Rattle.parcels.specs.declared.Refusal.{Refusal}
 use Rattle.parcels.specs.declared.Answer.{Answer}
 use Rattle.parcels.specs.declared.Answer.TheVariants.{Refused, Number, Given, At, NothingHeard, Two}
-use Rattle.promises.specs.Truth.{book_of, Move, moves}
+use Rattle.promises.specs.Truth.{book_of, Move, moves, step_in}
 use Rattle.wire.specs.Calls.{Reading}
 use Rattle.promises.specs.World.{Memory, Letter, Office, Said, World, Lived, In, IsGiven, IsSlipKnown, IsRowKnown, row_readable, after_news, Rounds, taken}
 
@@ -261,12 +261,22 @@ OldLetters can f =
 -- 7 and 8, that a slip works once and that a call that is turned away changes no book, speak of one book and
 -- one call: they stand with the laws of books, SlipOnce and TurnedAway. SlipSpent, below, is more than 7: of all calls.
 
--- BESIDE THE EIGHT: that what offices live through happened; which keys are given out, how far steps go, which slips are
--- spent, and what can be told of sums and of what is at an office, by what was taken everywhere.
+-- BESIDE THE EIGHT: that what offices live through happened; that answers tell of the steps in truth; which keys are given
+-- out, how far steps go, which slips are spent, and what can be told of sums and of what is at an office, by what was taken
+-- everywhere.
 
 -- what offices live through happened: so what is true of all that happened is true of theirs
 abbrev pub LivedHappened : Stage → Office → Type 0
 LivedHappened can f = (l : Limits) (w : World) → GoodLimits can l → Lived f l w → Happened l w.said
+
+-- the steps of a parcel that answers tell of, the oldest first
+unfoldable pub steps_told : List Said → ℕ → List Move
+steps_told [] p = []
+steps_told (x ∷ xs) p = steps_told xs p ++ step_in x.at x.reading x.answer p
+
+-- they are its steps in truth: who heard all answers knows each parcel's way
+abbrev pub StepsTold : Type 0
+StepsTold = (can : Stage) (l : Limits) (xs : List Said) (p : ℕ) → GoodLimits can l → Happened l xs → steps_told xs p ≡ in_truth l xs p
 
 -- the key that is given out by an answer to a row of bytes
 abbrev pub row_key_told : Reading → Answer → List ℕ

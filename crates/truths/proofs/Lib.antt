@@ -5,3 +5,4 @@ pub mod Keys
 pub mod Steps
 pub mod Spent
 pub mod Shelves
+pub mod Moves

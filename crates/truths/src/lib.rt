@@ -2,7 +2,7 @@
 // office's program. Each function does nothing: its contract is the theorem, and its proof is what the check asks for.
 #![tactic(auto)]
 
-ghost use Rattle.promises.specs.Promise.{NoKeyTwice, SlipsFit, SlipSpent, ShelvesAndSums};
+ghost use Rattle.promises.specs.Promise.{StepsTold, NoKeyTwice, SlipsFit, SlipSpent, ShelvesAndSums};
 
 // No key is given out twice, over all offices; each tells the office that gave it out; no slip brings one that its office has
 // yet to give out; and each key in a book tells an office that is there.
@@ -24,4 +24,9 @@ pub fn slips_are_spent()
 // there, in the order of their keys, each once. A call's field holds each number that is asked on from.
 pub fn shelves_and_sums_are_told()
     ensures { ShelvesAndSums }
+{}
+
+// The steps of parcels that answers tell of are those that they took in truth.
+pub fn steps_are_told()
+    ensures { StepsTold }
 {}

@@ -1,0 +1,108 @@
+-- The steps of parcels in truth, as more calls are taken; and that answers tell of them.
+use Rattle.std.proofs.Common.{◌≡◌, ℕ, ◌<◌, ◌≤◌, Bool, true, false, not, ◌&&◌, eqb, ltb, lt-ltb, is_some, List, [], ◌∷◌, ◌++◌, Some, None, Option, Ok, Err, refl, sym, ap, ◌∙◌, append_assoc, append-nil, arith}
+use Rattle.std.proofs.lemmas.Bool.Decides.{nat_tests}
+use mathlib.Core.Path.{fun_ext}
+use Rattle.parcels.specs.Numbers.{most_offices, most_parcels, four_bytes}
+use Rattle.parcels.specs.Book.{pick, Book, has_room}
+use Rattle.parcels.specs.Calls.{Limits, good_fields, checked, turned, after, told, not_refused, new_key, unless, refusal}
+use Rattle.parcels.specs.declared.Kind.{Kind}
+use Rattle.parcels.specs.declared.Kind.TheVariants.{Accepted, SentOn, ComeIn, HandedOut}
+use Rattle.parcels.specs.declared.Call.{Call}
+use Rattle.parcels.specs.declared.Call.TheVariants.{Accept, Send, SlipAgain, TakeIn, HandOut, Pay, WhereIs, Here, Sums}
+use Rattle.parcels.specs.declared.Reason.{Reason}
+use Rattle.parcels.specs.declared.Reason.TheVariants.{OutOfRange, OverLimit}
+use Rattle.parcels.specs.declared.Refusal.{Refusal}
+use Rattle.parcels.specs.declared.Answer.{Answer}
+use Rattle.parcels.specs.declared.Answer.TheVariants.{Refused, Number}
+use Rattle.wire.specs.Calls.{Reading}
+use Rattle.promises.specs.Truth.{Taken, book_of, Move, one_move, move_of, moves_from, is_key, is_slip, is_number, step_in}
+use Rattle.promises.specs.World.{Said, taken_by, taken}
+use Rattle.promises.specs.Promise.{truth, in_truth, RightRow, nothing_yet, and_then, steps_told, StepsTold}
+use Rattle.laws.proofs.Calls.{passed}
+use Rattle.laws.proofs.Keys.{accepted_small}
+use Rattle.truths.proofs.Books.{and_said}
+
+-- the steps by calls, and then by others, from the books that the first ones left
+pub moves_append : (l : Limits) (ts us : List Taken) (books : ℕ → Book) (p : ℕ) → moves_from l (ts ++ us) books p ≡ moves_from l ts books p ++ moves_from l us (λ o. book_of l o ts (books o)) p
+unfolding book_of moves_from
+moves_append l [] us books p = refl
+moves_append l (t ∷ ts) us books p =
+    let here : List Move = move_of l (books t.at) t.at t.call p in
+    let then : ℕ → Book = λ o. pick (eqb o t.at) (after l o (books o) t.call) (books o) in
+    let same : (o : ℕ) → eqb o t.at ≡ eqb t.at o = λ o. grind (arith, nat_tests) in
+    let left : (λ o. book_of l o ts (then o)) ≡ (λ o. book_of l o (t ∷ ts) (books o)) = fun_ext (λ o. ap (λ b. book_of l o ts (pick b (after l o (books o) t.call) (books o))) (same o)) in
+    ap (λ ms. here ++ ms) (moves_append l ts us then p ∙ ap (λ f. moves_from l ts then p ++ moves_from l us f p) left)
+    ∙ sym (append_assoc here (moves_from l ts then p) (moves_from l us (λ o. book_of l o (t ∷ ts) (books o)) p))
+
+-- the step of a parcel that an answer to a row of bytes makes, by the book of the office that gave it
+abbrev pub step_then : Limits → ℕ → Book → Reading → Answer → ℕ → List Move
+step_then l o b (Ok c) a p = pick (not_refused a) (move_of l b o c p) []
+step_then l o b (Err e) a p = []
+
+-- the steps by an answer, from the books before it
+made : (l : Limits) (o : ℕ) (books : ℕ → Book) (r : Reading) (a : Answer) (p : ℕ) → moves_from l (taken_by o r a) books p ≡ step_then l o (books o) r a p
+unfolding moves_from
+made l o books (Ok c) a p = go (not_refused a)
+  where
+    go : (t : Bool) → moves_from l (pick t (record { at = o; call = c } ∷ []) []) books p ≡ pick t (move_of l (books o) o c p) []
+    go true = append-nil (move_of l (books o) o c p)
+    go false = refl
+made l o books (Err e) a p = refl
+
+-- the steps in truth, with one thing more said
+pub steps_more : (l : Limits) (xs : List Said) (o : ℕ) (r : Reading) (a : Answer) (p : ℕ) → in_truth l (and_said o r a xs) p ≡ in_truth l xs p ++ step_then l o (truth l xs o) r a p
+unfolding taken
+steps_more l xs o r a p =
+    moves_append l (taken xs) (taken_by o r a) (λ q. []) p ∙ ap (λ ms. in_truth l xs p ++ ms) (made l o (λ q. truth l xs q) r a p)
+
+-- a call that makes a step makes it just where it is taken; a refusal tells of none
+made_step : (k : Kind) (o : ℕ) (tells : Answer → Bool) (mine : Bool) (c : Call) (a : Answer) (t : Option Reason) → ((f : Refusal) → tells (Refused f) ≡ false) → not_refused a ≡ true → (t ≡ None → tells a ≡ mine) →
+    let x : Answer = unless t a (λ r. Refused (refusal c r)) in one_move (tells x) k o ≡ pick (not_refused x) (one_move (not (is_some t) && mine) k o) []
+made_step k o tells mine c a None none taken told = rw (taken, told refl)
+made_step k o tells mine c a (Some r) none taken told = rw (none (refusal c r))
+
+-- where there is room for a parcel, four bytes hold its key
+key_fits : (l : Limits) (o : ℕ) (b : Book) (dest amount : ℕ) → l.offices ≤ most_offices → l.parcels ≤ most_parcels → o < l.offices → turned l o b (Accept dest amount) ≡ None → ltb (new_key o b) four_bytes ≡ true
+unfolding checked
+key_fits l o b dest amount offices parcels there free =
+    let room : has_room l.parcels b ≡ true = (passed (has_room l.parcels b) None OverLimit (passed (l.can 0 && good_fields l o (Accept dest amount)) _ OutOfRange free).1).0 in
+    lt-ltb (new_key o b) four_bytes (omega (arith, accepted_small o l.parcels b room parcels, offices, there))
+
+-- a call that makes no step makes none where it is taken, too
+no_step : (taken : Bool) (ms : List Move) → ms ≡ pick taken ms ms
+no_step true ms = refl
+no_step false ms = refl
+
+-- a right answer tells of the step that it makes
+right_step : (l : Limits) (xs : List Said) (o : ℕ) (r : Reading) (a : Answer) (p : ℕ) → l.offices ≤ most_offices → l.parcels ≤ most_parcels → o < l.offices → RightRow l xs o r a → step_in o r a p ≡ step_then l o (truth l xs o) r a p
+unfolding told move_of
+right_step l xs o (Ok (Accept dest amount)) a p offices parcels there right =
+    let b : Book = truth l xs o in
+    let c : Call = Accept dest amount in
+    rw right (made_step Accepted o (λ x. is_key x p) (eqb (new_key o b) p) c (Number (new_key o b)) (turned l o b c) (λ f. refl) refl (λ free. rw (key_fits l o b dest amount offices parcels there free)))
+right_step l xs o (Ok (Send key to)) a p offices parcels there right =
+    let b : Book = truth l xs o in
+    let c : Call = Send key to in
+    rw right (made_step SentOn o (λ x. is_slip x && eqb key p) (eqb key p) c (told o b c) (turned l o b c) (λ f. refl) refl (λ free. refl))
+right_step l xs o (Ok (SlipAgain key)) a p offices parcels there right = no_step (not_refused a) []
+right_step l xs o (Ok (TakeIn s)) a p offices parcels there right =
+    let b : Book = truth l xs o in
+    let c : Call = TakeIn s in
+    rw right (made_step ComeIn o (λ x. is_number x && eqb s.key p) (eqb s.key p) c (told o b c) (turned l o b c) (λ f. refl) refl (λ free. refl))
+right_step l xs o (Ok (HandOut key)) a p offices parcels there right =
+    let b : Book = truth l xs o in
+    let c : Call = HandOut key in
+    rw right (made_step HandedOut o (λ x. is_number x && eqb key p) (eqb key p) c (told o b c) (turned l o b c) (λ f. refl) refl (λ free. refl))
+right_step l xs o (Ok (Pay key)) a p offices parcels there right = no_step (not_refused a) []
+right_step l xs o (Ok (WhereIs key)) a p offices parcels there right = no_step (not_refused a) []
+right_step l xs o (Ok (Here from)) a p offices parcels there right = no_step (not_refused a) []
+right_step l xs o (Ok Sums) a p offices parcels there right = no_step (not_refused a) []
+right_step l xs o (Err e) a p offices parcels there right = refl
+
+pub told_in_truth : StepsTold
+unfolding steps_told taken moves_from
+told_in_truth can l [] p g nothing_yet = refl
+told_in_truth can l (x ∷ xs) p g (and_then o r a before in' fits known right) =
+    ap (λ ms. ms ++ step_in o r a p) (told_in_truth can l xs p g before)
+    ∙ ap (λ ms. in_truth l xs p ++ ms) (right_step l xs o r a p g.1 g.2 in' right)
+    ∙ sym (steps_more l xs o r a p)
