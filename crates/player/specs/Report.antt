@@ -3,6 +3,7 @@ use Rattle.std.specs.Prelude.{◌≡◌, ℕ, true, ◌⊎◌, List, [], ◌∷�
 use Rattle.std.specs.List.{flat_map}
 use Rattle.std.specs.Ordering.{nat_cmp}
 use Rattle.std.specs.BTreeMap.{BTreeMap, IsOrdered, get}
+use Rattle.parcels.specs.Calls.{Limits}
 use Rattle.parcels.specs.declared.Step.{Step}
 use Rattle.answers.specs.Texts.{located_text}
 use Rattle.world.specs.declared.Exchange.{Exchange}
@@ -54,14 +55,15 @@ place_line key step = located_text key step ++ (10 ∷ [])
 abbrev pub place_lines : List (ℕ × Step) → List ℕ
 place_lines es = flat_map (λ e. place_line e.0 e.1) es
 
--- a line for each parcel that took a step by these exchanges, with its last one, in the order of keys
-abbrev pub ShowsPlaces : List Exchange → List ℕ → Type 0
-ShowsPlaces xs bytes =
-    (steps : BTreeMap ℕ Step) × IsOrdered nat_cmp steps × ((key : ℕ) → get nat_cmp steps key ≡ last_step xs key) × (bytes ≡ place_lines steps.entries)
+-- a line for each parcel that took a step in truth, by what was said within these limits, with its last one, in the order
+-- of keys
+abbrev pub ShowsPlaces : Limits → List Exchange → List ℕ → Type 0
+ShowsPlaces l xs bytes =
+    (steps : BTreeMap ℕ Step) × IsOrdered nat_cmp steps × ((key : ℕ) → get nat_cmp steps key ≡ last_step l xs key) × (bytes ≡ place_lines steps.entries)
 
 -- these lines of some world
 abbrev pub ShowsWorld : List ℕ → Type 0
-ShowsWorld bytes = (w : World) × ShowsPlaces (journal_of w) bytes
+ShowsWorld bytes = (w : World) × ShowsPlaces (limits_of w) (journal_of w) bytes
 
 -- what is shown of a run that ended so: where each parcel is in some world; or nothing, if it didn't stop, since then there
 -- may be no world, or no memory for these lines

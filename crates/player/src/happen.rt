@@ -13,7 +13,7 @@ ghost use Rattle.player.specs.declared.trouble.Stop.TheVariants.{BudgetSpent};
 use crate::trouble::{Stop, Trouble};
 use lines::Line;
 use parcels::Answer;
-use world::{CannotHappen, Exchange, World};
+use world::{CannotHappen, World};
 
 // The most letters that are sent in a world that is played.
 pub const MAX_PLAYED_LETTERS: u32 = 256;
@@ -40,11 +40,10 @@ impl Player {
         Player { world, budget }
     }
 
-    // What was handed to offices as calls so far, and what they answered.
-    pub fn journal(&self) -> &[Exchange]
-        ensures { result.now ≡ journal_of self.now.world }
+    pub fn world(&self) -> &World
+        ensures { result.now ≡ self.now.world }
     {
-        self.world.journal()
+        &self.world
     }
 
     // Counts down one thing that is about to happen.

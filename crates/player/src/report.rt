@@ -2,6 +2,7 @@
 ghost use Rattle.std.specs.Prelude.{◌≡◌, [], ◌∷◌, ◌++◌, Some, IfOk, string_bytes, MatchResult};
 ghost use Rattle.answers.specs.Texts.{answer_text};
 ghost use Rattle.world.specs.declared.CannotHappen.TheVariants.{NoMemory};
+ghost use Rattle.world.specs.View.{limits_of, journal_of};
 ghost use Rattle.player.specs.declared.trouble.Trouble.TheVariants.{Impossible};
 ghost use Rattle.player.specs.declared.report.End.TheVariants.{Stopped};
 ghost use Rattle.player.specs.Limits.{small};
@@ -18,7 +19,7 @@ use std::alloc::Global;
 use std::fmt;
 use std::fmt::Write;
 use tracking::last_steps;
-use world::{CannotHappen, Exchange, World};
+use world::{CannotHappen, World};
 
 // How many things happen in a world at most.
 pub const BUDGET: u32 = 65_536;
@@ -91,12 +92,12 @@ fn show_stop(what: &str, most: u32, shown: &mut String) -> Result<End, Trouble>
     Ok(End::Stopped)
 }
 
-// Where each parcel is by what was handed to offices: a line for each, in the order of keys.
-fn places(heap: Global, journal: &[Exchange]) -> Result<String, Trouble>
-    ensures { MatchResult result (λ shown. ShowsPlaces journal.now (string_bytes shown)) (λ e. e ≡ Impossible NoMemory) }
+// Where each parcel of a world is: a line for each, in the order of keys.
+fn places(heap: Global, world: &World) -> Result<String, Trouble>
+    ensures { MatchResult result (λ shown. ShowsPlaces (limits_of world.now) (journal_of world.now) (string_bytes shown)) (λ e. e ≡ Impossible NoMemory) }
 {
     let mut shown = String::new(heap);
-    let steps = last_steps(heap, journal)?;
+    let steps = last_steps(heap, world)?;
     for (key, step) in &steps {
         show_place(*key, *step, &mut shown)?;
     }
@@ -182,7 +183,7 @@ impl<'a> Playing<'a> {
         let ran = self.run(&mut player);
         // the answers are not shown
         self.shown.clear();
-        self.shown = places(self.heap, player.journal())?;
+        self.shown = places(self.heap, player.world())?;
         ran
     }
 

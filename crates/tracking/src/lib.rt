@@ -5,12 +5,13 @@ ghost use Rattle.std.specs.Prelude.{◌≡◌, ℕ, ◌+◌, ◌^◌, ◌<◌, I
 ghost use Rattle.std.specs.Option.{ForSome};
 ghost use Rattle.std.specs.Ordering.{nat_cmp};
 ghost use Rattle.std.specs.BTreeMap.{get};
-ghost use Rattle.tracking.specs.Steps.{Tells, last_step};
+ghost use Rattle.world.specs.View.{limits_of, journal_of};
+ghost use Rattle.tracking.specs.Steps.{Tells, last_step, last_told};
 
 use parcels::{Answer, Call, Kind, Step};
 use std::alloc::{AllocError, Global};
 use std::collections::BTreeMap;
-use world::Exchange;
+use world::{Exchange, World};
 
 // A step that an exchange tells of: which parcel took it, of which kind it is, and which office made it.
 #[derive(Clone, Copy)]
@@ -46,9 +47,9 @@ fn next_number(last: Option<Step>) -> u64
     last.map_or(0, |step| step.number + 1)
 }
 
-// The last step of each parcel that took one, by the parcel's key.
-pub fn last_steps(heap: Global, journal: &[Exchange]) -> Result<BTreeMap<u32, Step>, AllocError>
-    ensures { IfOk result (λ steps. (key : ℕ) → get nat_cmp steps key ≡ last_step journal.now key) }
+// The last step of each parcel by what was said everywhere.
+fn steps_by(heap: Global, journal: &[Exchange]) -> Result<BTreeMap<u32, Step>, AllocError>
+    ensures { IfOk result (λ steps. (key : ℕ) → get nat_cmp steps key ≡ last_told journal.now key) }
 {
     let mut steps = BTreeMap::new(heap);
     for said in journal {
@@ -65,4 +66,12 @@ pub fn last_steps(heap: Global, journal: &[Exchange]) -> Result<BTreeMap<u32, St
         }
     }
     Ok(steps)
+}
+
+// The last step of each parcel that took one in a world, by the parcel's key.
+#[tactic(auto, using(crate::proofs::Truth::told_last))]
+pub fn last_steps(heap: Global, world: &World) -> Result<BTreeMap<u32, Step>, AllocError>
+    ensures { IfOk result (λ steps. (key : ℕ) → get nat_cmp steps key ≡ last_step (limits_of world.now) (journal_of world.now) key) }
+{
+    steps_by(heap, world.journal())
 }

@@ -1,9 +1,9 @@
-// Small journals, and where each parcel is by them; and a world whose offices tell what is there.
+// Worlds, and where each parcel is in them; and what their offices tell to be there.
 #![tactic(auto)]
 
-#[cfg(test)]
-mod journals;
 #[cfg(test)]
 mod said;
 #[cfg(test)]
 mod shelves;
+#[cfg(test)]
+mod steps;

@@ -1,23 +1,16 @@
 // A world in which parcels move, what each office tells to be there, and what is tracked.
-use parcels::{Answer, Call, Kind, Reason, Refusal, Slip};
+use crate::said::{answer, refused, slip, take_in};
+use parcels::{Answer, Call, Kind, Reason};
 use std::alloc::{AllocError, Global};
 use std::process::Abort;
 use std::test::Fail;
 use tracking::last_steps;
 use world::World;
 
-// What an office answers to a call that can happen.
-fn answer(rt: &impl Abort, world: &mut World, at: u32, call: Call) -> Answer {
-    let Ok(answer) = world.call(at, call) else {
-        panic!(rt; "a call at {at} that can't happen");
-    };
-    answer
-}
-
-// The parcels that are at an office by the journal, in the order of keys: it made their last steps, which left them there.
+// The parcels that are at an office by what is tracked, in the order of keys: it made their last steps, which left them there.
 fn tracked(heap: Global, world: &World, office: u32) -> Result<Vec<u32>, AllocError> {
     let mut keys = Vec::new(heap);
-    let steps = last_steps(heap, world.journal())?;
+    let steps = last_steps(heap, world)?;
     for (key, step) in &steps {
         if step.office == office && matches!(step.kind, Kind::Accepted | Kind::ComeIn) {
             keys.push(*key)?;
@@ -39,21 +32,6 @@ fn check_shelf(rt: &impl Abort, world: &mut World, office: u32, keys: &[u32]) ->
     Ok(())
 }
 
-fn slip(key: u32, step: u64, from: u32, to: u32, dest: u32, amount: u32) -> Slip {
-    Slip {
-        key,
-        step,
-        from,
-        to,
-        dest,
-        amount,
-    }
-}
-
-fn refused(reason: Reason) -> Answer {
-    Answer::Refused(Refusal { reason, place: 0 })
-}
-
 // Beside each call and its answer: the parcels that are at that office then. They come there in another order than that of
 // their keys, and one comes back to where it was accepted.
 #[test]
@@ -62,7 +40,6 @@ fn told_as_tracked(rt: HostRuntime) -> Result<(), Fail> {
     let Ok(mut world) = World::open(heap, 4, 8) else {
         panic!(rt; "no world");
     };
-    let take_in = |slip| Call::TakeIn { slip };
     let first = slip(0, 1, 0, 1, 2, 50);
     let onward = slip(0, 3, 1, 2, 2, 50);
     let away = slip(131_072, 1, 2, 1, 0, 20);

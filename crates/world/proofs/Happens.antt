@@ -43,13 +43,14 @@ begins n p ss xs all fresh e =
     begun : (o : ℕ) → o < n → Fresh p (memory_at ss o)
     begun o there = fresh_at ss o p (omega (arith, all)) (λ d. fresh o d there)
 
+-- limits that a world is opened with are good ones
+pub good_limits : (n p : ℕ) → in_range n 0 p ≡ true → GoodLimits thin (stage_limits n p)
+good_limits n p good = (grind (arith, nat_tests), grind (arith, nat_tests), grind (arith, nat_tests), λ k. refl)
+
 -- the answer is right
 pub right : (n p o : ℕ) (ss : List Station) (xs : List Exchange) (r : Reading) (a : Answer) (m : Memory) → in_range n 0 p ≡ true → o < n →
     ∥ Lived ours (stage_limits n p) (world_of ss xs) ∥₁ → Done (stage_limits n p) o (memory_at ss o) r a m → RightRow (stage_limits n p) (history xs) o r a
-right n p o ss xs r a m good there v done = right_now (stage_limits n p) (world_of ss xs) o r a m limits v there done
-  where
-    limits : GoodLimits thin (stage_limits n p)
-    limits = (grind (arith, nat_tests), grind (arith, nat_tests), grind (arith, nat_tests), λ k. refl)
+right n p o ss xs r a m good there v done = right_now (stage_limits n p) (world_of ss xs) o r a m (good_limits n p good) v there done
 
 -- an office that was found is there
 pub is_there : (n o : ℕ) → Ok tt ≡ at_office n o → o < n

@@ -1,4 +1,5 @@
-mod Journal
+pub mod Journal
 mod Asking
 mod Stations
 mod Happens
+pub mod Happened
