@@ -1,5 +1,5 @@
 -- What is shown of a world file, and how it ends.
-use Rattle.std.specs.Prelude.{◌≡◌, ℕ, true, ◌⊎◌, List, [], ◌∷◌, ◌++◌, Some, None, Ok, Err, string_bytes, codes, decimal, Option, Result}
+use Rattle.std.specs.Prelude.{◌≡◌, ℕ, List, [], ◌∷◌, ◌++◌, Ok, Err, string_bytes, codes, decimal, Result}
 use Rattle.std.specs.List.{flat_map}
 use Rattle.std.specs.Ordering.{nat_cmp}
 use Rattle.std.specs.BTreeMap.{BTreeMap, IsOrdered, get}
@@ -8,10 +8,10 @@ use Rattle.parcels.specs.declared.Step.{Step}
 use Rattle.answers.specs.Texts.{located_text}
 use Rattle.world.specs.declared.Exchange.{Exchange}
 use Rattle.world.specs.declared.CannotHappen.TheVariants.{NoMemory}
-use Rattle.world.specs.declared.World.{World}
-use Rattle.world.specs.View.{limits_of, journal_of}
 use Rattle.tracking.specs.Steps.{last_step}
-use Rattle.player.specs.Limits.{most_played_letters, small}
+use Rattle.player.specs.Cut.{Text, whole}
+use Rattle.player.specs.Limits.{most_played_letters}
+use Rattle.player.specs.Run.{At, NoWorld, PlaysWorld}
 use Rattle.player.specs.declared.trouble.Stop.{Stop}
 use Rattle.player.specs.declared.trouble.Stop.TheVariants.{BudgetSpent, TooManyLetters, Bad}
 use Rattle.player.specs.declared.trouble.Trouble.TheVariants.{Impossible}
@@ -19,11 +19,6 @@ use Rattle.player.specs.declared.report.BadLine.{BadLine}
 use Rattle.player.specs.declared.report.End.{End}
 use Rattle.player.specs.declared.report.End.TheVariants.{Done, Stopped}
 use Rattle.player.specs.declared.report.Report.{Report}
-
--- a world that is played is small, and nothing was said in it at the start
-abbrev pub Small : Option World → Type 0
-Small None = Unit {0}
-Small (Some w) = (small (limits_of w).offices (limits_of w).parcels ≡ true) × (journal_of w ≡ [])
 
 -- the line that says why a world stopped, where no line of its file is to blame
 abbrev pub stop_line : ℕ → List ℕ → List ℕ
@@ -33,7 +28,7 @@ stop_line most what = codes "stopped: more than " ++ (decimal most ++ (codes " "
 abbrev pub Stops : List ℕ → ℕ → List ℕ → Result End BadLine → List ℕ → Type 0
 Stops bytes line more (Ok Done) all = ⊥
 Stops bytes line more (Ok Stopped) all = all ≡ bytes ++ more
-Stops bytes line more (Err bad) all = bad ≡ record { line = line; trouble = Impossible NoMemory }
+Stops bytes line more (Err bad) all = (bad ≡ record { line = line; trouble = Impossible NoMemory }) × (all ≡ bytes)
 
 -- the report of a run that ended so at this line, after it showed these bytes
 abbrev pub Concludes : Result (Unit {0}) Stop → ℕ → ℕ → List ℕ → Report → Type 0
@@ -42,10 +37,6 @@ Concludes (Err (Bad t)) line budget bytes r = (r.end ≡ Err (record { line = li
 Concludes (Err BudgetSpent) line budget bytes r = Stops bytes line (stop_line budget (codes "things happened")) r.end (string_bytes r.shown)
 Concludes (Err TooManyLetters) line budget bytes r =
     Stops bytes line (stop_line most_played_letters (codes "letters were sent")) r.end (string_bytes r.shown)
-
--- the report of some run; which bytes a file shows is not said yet
-abbrev pub Reports : ℕ → Report → Type 0
-Reports budget r = (ran : Result (Unit {0}) Stop) × (line : ℕ) × (bytes : List ℕ) × Concludes ran line budget bytes r
 
 -- where a parcel is, as a line
 abbrev pub place_line : ℕ → Step → List ℕ
@@ -61,18 +52,23 @@ abbrev pub ShowsPlaces : Limits → List Exchange → List ℕ → Type 0
 ShowsPlaces l xs bytes =
     (steps : BTreeMap ℕ Step) × IsOrdered nat_cmp steps × ((key : ℕ) → get nat_cmp steps key ≡ last_step l xs key) × (bytes ≡ place_lines steps.entries)
 
--- these lines of some world
-abbrev pub ShowsWorld : List ℕ → Type 0
-ShowsWorld bytes = (w : World) × ShowsPlaces (limits_of w) (journal_of w) bytes
+-- what a file shows, and how playing it ends, with this text left: the answers, up to there
+pub data ShowsAnswers (file : Text) (budget : ℕ) : Result (Unit {0}) Stop → Text → List ℕ → Type 0 where
+  no_world : (ran : Result (Unit {0}) Stop) (left : Text) → NoWorld file ran left → ShowsAnswers file budget ran left []
+  world : {ran : Result (Unit {0}) Stop} {l : Limits} {b : At} → PlaysWorld file budget l ran b → ShowsAnswers file budget ran b.text b.shown
 
--- what is shown of a run that ended so: where each parcel is in some world; or nothing, if it didn't stop, since then there
--- may be no world, or no memory for these lines
-abbrev pub Locates : Result (Unit {0}) Stop → List ℕ → Type 0
-Locates (Ok _) bytes = (bytes ≡ []) ⊎ ShowsWorld bytes
-Locates (Err (Bad t)) bytes = (bytes ≡ []) ⊎ ShowsWorld bytes
-Locates (Err BudgetSpent) bytes = ShowsWorld bytes
-Locates (Err TooManyLetters) bytes = ShowsWorld bytes
+-- the same where it shows no answers, but where each parcel is then: nothing, where no memory is left for these lines
+pub data Locates (file : Text) (budget : ℕ) : Result (Unit {0}) Stop → Text → List ℕ → Type 0 where
+  no_world : (ran : Result (Unit {0}) Stop) (left : Text) → NoWorld file ran left → Locates file budget ran left []
+  world : {ran : Result (Unit {0}) Stop} {l : Limits} {b : At} (bytes : List ℕ) → PlaysWorld file budget l ran b → ShowsPlaces l b.journal bytes → Locates file budget ran b.text bytes
+  no_memory : {ran : Result (Unit {0}) Stop} {l : Limits} {b : At} → PlaysWorld file budget l ran b → Locates file budget (Err (Bad (Impossible NoMemory))) b.text []
 
--- the report of some run that showed where each parcel is and, where it stopped, why
-abbrev pub ReportsPlaces : ℕ → Report → Type 0
-ReportsPlaces budget r = (ran : Result (Unit {0}) Stop) × (line : ℕ) × (bytes : List ℕ) × Locates ran bytes × Concludes ran line budget bytes r
+-- the report of a file in which at most so many things happen: its answers, and why playing it ended
+abbrev pub Reports : List ℕ → ℕ → Report → Type 0
+Reports file budget r =
+    (ran : Result (Unit {0}) Stop) × (left : Text) × (bytes : List ℕ) × ShowsAnswers (whole file) budget ran left bytes × Concludes ran left.taken budget bytes r
+
+-- the report that tells where each parcel of a file is in the end, and why playing it ended
+abbrev pub ReportsPlaces : List ℕ → ℕ → Report → Type 0
+ReportsPlaces file budget r =
+    (ran : Result (Unit {0}) Stop) × (left : Text) × (bytes : List ℕ) × Locates (whole file) budget ran left bytes × Concludes ran left.taken budget bytes r

@@ -50,14 +50,14 @@ pub trait Program {
     // what it is called
     ghost called: { List ℕ };
 
-    // what is true of each report
-    ghost reports: { Report → Type 0 };
+    // what is true of the report of each file
+    ghost reports: { List ℕ → Report → Type 0 };
 
     fn name(&self) -> &'static str
         ensures { result.now ≡ called };
 
     fn report(&self, heap: Global, file: &[u8]) -> Report
-        ensures { reports result };
+        ensures { reports file.now result };
 
     // Runs the program on its files. What is wrong goes to standard error, as a line.
     final fn run(&self, rt: &HostRuntime) -> ExitCode {
@@ -77,7 +77,7 @@ pub struct Play;
 impl Program for Play {
     ghost called = { codes "play" };
 
-    ghost reports = { Reports BUDGET };
+    ghost reports = { λ file r. Reports file BUDGET r };
 
     fn name(&self) -> &'static str {
         "play"
@@ -95,7 +95,7 @@ pub struct Locate;
 impl Program for Locate {
     ghost called = { codes "locate" };
 
-    ghost reports = { ReportsPlaces BUDGET };
+    ghost reports = { λ file r. ReportsPlaces file BUDGET r };
 
     fn name(&self) -> &'static str {
         "locate"

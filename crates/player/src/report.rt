@@ -1,12 +1,13 @@
 // What playing a world file comes to, as text.
-ghost use Rattle.std.specs.Prelude.{◌≡◌, [], ◌∷◌, ◌++◌, Some, IfOk, string_bytes, MatchResult};
-ghost use Rattle.answers.specs.Texts.{answer_text};
+ghost use Rattle.std.specs.Prelude.{◌≡◌, [], ◌++◌, Some, string_bytes, MatchResult};
 ghost use Rattle.world.specs.declared.CannotHappen.TheVariants.{NoMemory};
 ghost use Rattle.world.specs.View.{limits_of, journal_of};
 ghost use Rattle.player.specs.declared.trouble.Trouble.TheVariants.{Impossible};
 ghost use Rattle.player.specs.declared.report.End.TheVariants.{Stopped};
+ghost use Rattle.player.specs.Cut.{text_of, whole};
 ghost use Rattle.player.specs.Limits.{small};
-ghost use Rattle.player.specs.Report.{Small, stop_line, place_line, ShowsPlaces, Locates, Concludes, Reports, ReportsPlaces};
+ghost use Rattle.player.specs.Run.{OpensFile, Runs, at_of, answer_line};
+ghost use Rattle.player.specs.Report.{stop_line, place_line, ShowsPlaces, ShowsAnswers, Locates, Concludes, Reports, ReportsPlaces};
 ghost use Rattle.player.specs.Texts.{bad_line_text};
 
 use crate::happen::{MAX_PLAYED_LETTERS, Player};
@@ -67,11 +68,12 @@ fn is_small(offices: u32, parcels: u32) -> bool
     offices <= MAX_PLAYED_OFFICES && parcels <= MAX_PLAYED_PARCELS
 }
 
-// Writes an answer as a line.
-fn show(answer: Answer, shown: &mut String) -> Result<(), Trouble>
-    ensures { MatchResult result (λ _. string_bytes shown.new ≡ string_bytes shown.old ++ (answer_text answer ++ (10 ∷ []))) (λ e. e ≡ Impossible NoMemory) }
+// Writes an answer as a line, or nothing where there is no memory for all of it.
+fn show(heap: Global, answer: Answer, shown: &mut String) -> Result<(), Trouble>
+    ensures { MatchResult result (λ _. string_bytes shown.new ≡ string_bytes shown.old ++ answer_line (Some answer)) (λ e. (e ≡ Impossible NoMemory) × (string_bytes shown.new ≡ string_bytes shown.old)) }
 {
-    writeln!(shown, "{}", AnswerText(answer))?;
+    let line = format!(in heap; "{}\n", AnswerText(answer))?;
+    shown.push_str(line.as_str())?;
     Ok(())
 }
 
@@ -85,10 +87,11 @@ fn show_place(key: u32, step: Step, shown: &mut String) -> Result<(), Trouble>
 
 // Why a world stopped, as a line, where no line of its file is to blame: so the file ends. (No function with `show`:
 // each states a text of its own.)
-fn show_stop(what: &str, most: u32, shown: &mut String) -> Result<End, Trouble>
-    ensures { MatchResult result (λ end. (end ≡ Stopped) × (string_bytes shown.new ≡ string_bytes shown.old ++ stop_line most what.now)) (λ e. e ≡ Impossible NoMemory) }
+fn show_stop(heap: Global, what: &str, most: u32, shown: &mut String) -> Result<End, Trouble>
+    ensures { MatchResult result (λ end. (end ≡ Stopped) × (string_bytes shown.new ≡ string_bytes shown.old ++ stop_line most what.now)) (λ e. (e ≡ Impossible NoMemory) × (string_bytes shown.new ≡ string_bytes shown.old)) }
 {
-    writeln!(shown, "stopped: more than {most} {what}")?;
+    let line = format!(in heap; "stopped: more than {most} {what}\n")?;
+    shown.push_str(line.as_str())?;
     Ok(End::Stopped)
 }
 
@@ -115,6 +118,7 @@ struct Playing<'a> {
 
 impl<'a> Playing<'a> {
     fn new(heap: Global, file: &'a [u8], budget: u32) -> Playing<'a>
+        ensures lines { text_of result.lines ≡ whole file.now }
         ensures budget { result.budget ≡ budget }
         ensures shown { string_bytes result.shown ≡ [] }
     {
@@ -128,11 +132,11 @@ impl<'a> Playing<'a> {
 
     // Opens the world that the first line that is not blank asks for. None where there is no such line.
     fn open(&mut self) -> Result<Option<World>, Trouble>
-        ensures world { IfOk result Small }
+        ensures value { OpensFile (text_of self.old.lines) result (text_of self.new.lines) }
         ensures budget { self.new.budget ≡ self.old.budget }
         ensures shown { self.new.shown ≡ self.old.shown }
     {
-        for line in &mut self.lines {
+        while let Some(line) = self.lines.next() {
             match read_line(self.heap, line)? {
                 Line::Blank => {}
                 Line::Opening { offices, parcels } => {
@@ -149,11 +153,13 @@ impl<'a> Playing<'a> {
 
     // Lets happen what the lines say, and writes the answers.
     fn run(&mut self, player: &mut Player) -> Result<(), Stop>
-        ensures { self.new.budget ≡ self.old.budget }
+        ensures value { Runs (limits_of player.old.world) (at_of self.old player.old) result (at_of self.new player.new) }
+        ensures budget { self.new.budget ≡ self.old.budget }
+        ensures same { limits_of player.new.world ≡ limits_of player.old.world }
     {
-        for line in &mut self.lines {
+        while let Some(line) = self.lines.next() {
             if let Some(answer) = player.happen(read_line(self.heap, line)?)? {
-                show(answer, &mut self.shown)?;
+                show(self.heap, answer, &mut self.shown)?;
             }
             player.count_letters()?;
         }
@@ -162,7 +168,9 @@ impl<'a> Playing<'a> {
 
     // Plays the file, and leaves the answers to be shown.
     fn play(&mut self) -> Result<(), Stop>
-        ensures { self.new.budget ≡ self.old.budget }
+        requires { string_bytes self.old.shown ≡ [] }
+        ensures value { ShowsAnswers (text_of self.old.lines) self.old.budget result (text_of self.new.lines) (string_bytes self.new.shown) }
+        ensures budget { self.new.budget ≡ self.old.budget }
     {
         let Some(world) = self.open()? else {
             return Ok(());
@@ -173,7 +181,7 @@ impl<'a> Playing<'a> {
     // Plays the file, and leaves to be shown where each parcel is in the end, whether or not all of the file was done.
     fn locate(&mut self) -> Result<(), Stop>
         requires { string_bytes self.old.shown ≡ [] }
-        ensures shown { Locates result (string_bytes self.new.shown) }
+        ensures value { Locates (text_of self.old.lines) self.old.budget result (text_of self.new.lines) (string_bytes self.new.shown) }
         ensures budget { self.new.budget ≡ self.old.budget }
     {
         let Some(world) = self.open()? else {
@@ -195,9 +203,16 @@ impl<'a> Playing<'a> {
         let end = match ran {
             Ok(()) => Ok(End::Done),
             Err(Stop::TooManyLetters) => {
-                show_stop("letters were sent", MAX_PLAYED_LETTERS, &mut self.shown)
+                show_stop(
+                    self.heap,
+                    "letters were sent",
+                    MAX_PLAYED_LETTERS,
+                    &mut self.shown,
+                )
             }
-            Err(Stop::BudgetSpent) => { show_stop("things happened", self.budget, &mut self.shown) }
+            Err(Stop::BudgetSpent) => {
+                show_stop(self.heap, "things happened", self.budget, &mut self.shown)
+            }
             Err(Stop::Bad(trouble)) => Err(trouble),
         };
         Report {
@@ -209,7 +224,7 @@ impl<'a> Playing<'a> {
 
 // Plays a world file in which at most so many things happen: an answer for each call.
 pub fn play(heap: Global, file: &[u8], budget: u32) -> Report
-    ensures { Reports budget result }
+    ensures { Reports file.now budget result }
 {
     let mut playing = Playing::new(heap, file, budget);
     let ran = playing.play();
@@ -219,7 +234,7 @@ pub fn play(heap: Global, file: &[u8], budget: u32) -> Report
 // Plays a world file in which at most so many things happen, and tells of each parcel, in the order of keys, where it is
 // by what was taken everywhere.
 pub fn locate(heap: Global, file: &[u8], budget: u32) -> Report
-    ensures { ReportsPlaces budget result }
+    ensures { ReportsPlaces file.now budget result }
 {
     let mut playing = Playing::new(heap, file, budget);
     let ran = playing.locate();

@@ -1,7 +1,7 @@
 // A text cut into its lines.
 ghost use Rattle.std.specs.Prelude.{◌≡◌, ◌<◌, length};
 ghost use Rattle.std.specs.Iterator.{at_most};
-ghost use Rattle.player.specs.Cut.{Cuts, FirstLine};
+ghost use Rattle.player.specs.Cut.{Cuts, FirstLine, text_of, whole};
 
 // What is left of a text, and how many lines were taken from it: the number of the last one is asked for when the
 // text is at its end, so it is counted here and not by `enumerate`. (std's `split_inclusive` leaves the newline on
@@ -25,7 +25,7 @@ fn first_line(text: &[u8]) -> (&[u8], &[u8])
 
 impl<'a> Lines<'a> {
     pub fn new(text: &'a [u8]) -> Lines<'a>
-        ensures { (result.rest.now ≡ text.now) × (result.taken ≡ 0) }
+        ensures { text_of result ≡ whole text.now }
     {
         Lines {
             rest: text,
@@ -45,7 +45,7 @@ impl<'a> Lines<'a> {
 impl<'a> Iterator for Lines<'a> {
     type Item = &'a [u8];
 
-    ghost next_gives = { λ s r t. Cuts s.rest.now s.taken r t.rest.now t.taken };
+    ghost next_gives = { λ s r t. Cuts (text_of s) r (text_of t) };
 
     ghost remaining = { λ s. at_most (length s.rest.now) };
 
