@@ -57,6 +57,20 @@ impl Opening {
         self.own
     }
 
+    // How many offices there are.
+    pub fn offices(&self) -> u32
+        ensures { result ≡ self.now.offices }
+    {
+        self.offices
+    }
+
+    // Its limit of parcels.
+    pub fn parcels(&self) -> u32
+        ensures { result ≡ self.now.parcels }
+    {
+        self.parcels
+    }
+
     // Whether an office is there.
     pub fn has_office(&self, office: u32) -> bool
         ensures { result ≡ nat_lt office self.now.offices }

@@ -38,7 +38,7 @@ ends {b = b} {c = c} line stop (Err e) same goes takes with shown is =
 -- nothing was said in a world that a file opened
 nothing_said : (read : Result Line Fault) (w : World) → Begins read (Ok w) → journal_of w ≡ []
 nothing_said (Ok Blank) w begins = absurd begins
-nothing_said (Ok (Opening offices parcels)) w (opened small opens) = opens.2
+nothing_said (Ok (Opening offices parcels)) w (opened small opens) = opens.3
 nothing_said (Ok (CallAt o c)) w begins = cc
 nothing_said (Ok (Bytes o bytes)) w begins = cc
 nothing_said (Ok (Tick o)) w begins = cc

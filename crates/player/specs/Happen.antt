@@ -1,5 +1,5 @@
 -- What comes of each line of a world file, with so many things that may still happen.
-use Rattle.std.specs.Prelude.{◌≡◌, ℕ, ◌-◌, ◌<◌, List, Some, None, Ok, Err, vec_items, Option, Result, ◌==◌, nat_le}
+use Rattle.std.specs.Prelude.{◌≡◌, ℕ, ◌+◌, ◌-◌, ◌<◌, ◌≤◌, List, [], Some, None, Ok, Err, vec_items, Option, Result, ◌==◌, nat_le}
 use Rattle.parcels.specs.Book.{pick}
 use Rattle.parcels.specs.Calls.{Limits}
 use Rattle.parcels.specs.declared.Answer.{Answer}
@@ -7,8 +7,11 @@ use Rattle.lines.specs.declared.Line.{Line}
 use Rattle.lines.specs.declared.Line.TheVariants.{Blank, Opening, Call as CallAt, Bytes, Tick, AllTick, Letter, AllLetters, AllLettersLastFirst}
 use Rattle.world.specs.declared.Exchange.{Exchange}
 use Rattle.world.specs.declared.CannotHappen.{CannotHappen}
-use Rattle.world.specs.declared.CannotHappen.TheVariants.{NeverSent}
-use Rattle.world.specs.Outcome.{Called, Came, at_office}
+use Rattle.world.specs.declared.CannotHappen.TheVariants.{NoMemory}
+use Rattle.world.specs.declared.World.{World}
+use Rattle.world.specs.Outcome.{Called, Came, Answers, Nothing, Comes, AtOffice}
+use Rattle.world.specs.View.{limits_of, letters_of}
+use Rattle.player.specs.Limits.{most_played_letters}
 use Rattle.player.specs.declared.trouble.Stop.{Stop}
 use Rattle.player.specs.declared.trouble.Stop.TheVariants.{BudgetSpent, TooManyLetters, Bad}
 use Rattle.player.specs.declared.trouble.Trouble.TheVariants.{OpenedAgain, Impossible}
@@ -21,42 +24,43 @@ Shown = Result (Option Answer) Stop
 abbrev pub spent : ℕ → Result (Unit {0}) Stop
 spent n = pick (n == 0) (Err BudgetSpent) (Ok tt)
 
--- what comes of a thing that is counted down, and what it leaves: as the world has it, where the budget is not spent
-abbrev pub Spends : {A S : Type 0} → ℕ → S → (Result A CannotHappen → S → Type 0) → Result A Stop → S → Type 0
-Spends n w Happens (Ok a) v = (0 < n) × Happens (Ok a) v
-Spends n w Happens (Err (Bad t)) v = (0 < n) × ((e : CannotHappen) × (t ≡ Impossible e) × Happens (Err e) v)
-Spends n w Happens (Err BudgetSpent) v = (n ≡ 0) × (v ≡ w)
-Spends n w Happens (Err TooManyLetters) v = ⊥
+-- whether so many letters leave a world to be played on
+abbrev pub counted : ℕ → Result (Unit {0}) Stop
+counted letters = pick (nat_le letters most_played_letters) (Ok tt) (Err TooManyLetters)
+
+-- what comes of a thing that is counted down, and the journal after it: as the world has it, where the budget is not spent
+abbrev pub Spends : ℕ → List Exchange → (Result (Option Answer) CannotHappen → List Exchange → Type 0) → Shown → List Exchange → Type 0
+Spends n xs Outcome (Ok a) ys = (0 < n) × Outcome (Ok a) ys
+Spends n xs Outcome (Err (Bad t)) ys = (0 < n) × ((e : CannotHappen) × (t ≡ Impossible e) × Outcome (Err e) ys)
+Spends n xs Outcome (Err BudgetSpent) ys = (n ≡ 0) × (ys ≡ xs)
+Spends n xs Outcome (Err TooManyLetters) ys = ⊥
+
+-- a world's limits and the letters that were sent in it are as they were
+abbrev pub SameLetters : World → World → Type 0
+SameLetters v w = (limits_of w ≡ limits_of v) × (letters_of w ≡ letters_of v)
 
 -- what a thing without an answer shows, by what comes of it
 abbrev pub unanswered : Result (Unit {0}) Stop → Shown
 unanswered (Ok _) = Ok None
 unanswered (Err stop) = Err stop
 
--- what a tick or a letter shows, by what the world says of it
-abbrev pub stops : Result (Unit {0}) CannotHappen → Shown
-stops (Ok _) = Ok None
-stops (Err e) = Err (Bad (Impossible e))
-
--- the same, where the budget is not spent
-abbrev pub one_thing : ℕ → Result (Unit {0}) CannotHappen → Shown
-one_thing n done = pick (n == 0) (Err BudgetSpent) (stops done)
-
--- what is handed to an office as a call, and shows its answer
-abbrev pub Counted : ℕ → List Exchange → (Result Answer CannotHappen → List Exchange → Type 0) → Shown → List Exchange → Type 0
-Counted n xs Happens (Ok (Some a)) ys = Spends n xs Happens (Ok a) ys
-Counted n xs Happens (Ok None) ys = ⊥
-Counted n xs Happens (Err stop) ys = Spends n xs Happens (Err stop) ys
+-- all clocks tick, one after the other, until the budget is spent; or memory is wanting
+abbrev pub TicksAll : ℕ → ℕ → Shown → ℕ → Type 0
+TicksAll n offices (Ok (Some a)) m = ⊥
+TicksAll n offices (Ok None) m = m + offices ≡ n
+TicksAll n offices (Err BudgetSpent) m = (n < offices) × (m ≡ 0)
+TicksAll n offices (Err (Bad t)) m = (t ≡ Impossible NoMemory) × (m < n) × (n ≤ m + offices)
+TicksAll n offices (Err TooManyLetters) m = ⊥
 
 -- each line, with what is left of the budget and the journal after it. No letter is sent in this stage: none can
 -- come, and where all of them do, nothing happens
 abbrev pub Plays : ℕ → Limits → List Exchange → Line → Shown → ℕ → List Exchange → Type 0
 Plays n l xs Blank r m ys = (r ≡ Ok None) × (m ≡ n) × (ys ≡ xs)
 Plays n l xs (Opening offices parcels) r m ys = (r ≡ Err (Bad OpenedAgain)) × (m ≡ n) × (ys ≡ xs)
-Plays n l xs (CallAt o c) r m ys = Counted n xs (Called l xs o c) r ys × (m ≡ n - 1)
-Plays n l xs (Bytes o bytes) r m ys = Counted n xs (Came l xs o (vec_items bytes)) r ys × (m ≡ n - 1)
-Plays n l xs (Tick o) r m ys = (r ≡ one_thing n (at_office l.offices o)) × (m ≡ n - 1) × (ys ≡ xs)
-Plays n l xs AllTick r m ys = (r ≡ pick (nat_le l.offices n) (Ok None) (Err BudgetSpent)) × (m ≡ n - l.offices) × (ys ≡ xs)
-Plays n l xs (Letter k) r m ys = (r ≡ one_thing n (Err NeverSent)) × (m ≡ n - 1) × (ys ≡ xs)
+Plays n l xs (CallAt o c) r m ys = Spends n xs (λ a zs. Answers (λ b. Called l xs o c b zs) a) r ys × (m ≡ n - 1)
+Plays n l xs (Bytes o bytes) r m ys = Spends n xs (λ a zs. Answers (λ b. Came l xs o (vec_items bytes) b zs) a) r ys × (m ≡ n - 1)
+Plays n l xs (Tick o) r m ys = Spends n xs (λ a zs. Nothing (AtOffice l.offices o) a × (zs ≡ xs)) r ys × (m ≡ n - 1)
+Plays n l xs AllTick r m ys = TicksAll n l.offices r m × (ys ≡ xs)
+Plays n l xs (Letter k) r m ys = Spends n xs (λ a zs. Nothing (Comes l.offices [] k) a × (zs ≡ xs)) r ys × (m ≡ n - 1)
 Plays n l xs AllLetters r m ys = (r ≡ Ok None) × (m ≡ n) × (ys ≡ xs)
 Plays n l xs AllLettersLastFirst r m ys = (r ≡ Ok None) × (m ≡ n) × (ys ≡ xs)

@@ -1,13 +1,14 @@
 -- A world file is played line by line: what is done by each, up to the end of the text or to a line with which it ends.
-use Rattle.std.specs.Prelude.{◌≡◌, ◌↔◌, ℕ, true, false, List, [], ◌∷◌, ◌++◌, Some, None, Ok, Err, Option, Result, IfOk, IsTrue, string_bytes}
+use Rattle.std.specs.Prelude.{◌≡◌, ◌↔◌, ℕ, true, false, List, [], ◌∷◌, ◌++◌, Some, None, Ok, Err, Option, Result, IfOk, IfErr, IsTrue, ◌⊎◌, string_bytes}
 use Rattle.parcels.specs.Calls.{Limits}
 use Rattle.parcels.specs.declared.Answer.{Answer}
 use Rattle.answers.specs.Texts.{answer_text}
 use Rattle.lines.specs.declared.fault.Fault.{Fault}
+use Rattle.lines.specs.declared.fault.Fault.TheVariants.{NoMemory as NoMemoryLeft}
 use Rattle.lines.specs.declared.Line.{Line}
 use Rattle.lines.specs.declared.Line.TheVariants.{Blank, Opening, Call as CallAt, Bytes, Tick, AllTick, Letter, AllLetters, AllLettersLastFirst}
 use Rattle.lines.specs.Tokens.{is_blank_line}
-use Rattle.lines.specs.Forms.{Says}
+use Rattle.lines.specs.Forms.{Says, IsNoLine}
 use Rattle.world.specs.declared.Exchange.{Exchange}
 use Rattle.world.specs.declared.CannotHappen.{CannotHappen}
 use Rattle.world.specs.declared.CannotHappen.TheVariants.{BadLimits, NoMemory}
@@ -24,9 +25,9 @@ use Rattle.player.specs.declared.trouble.Stop.TheVariants.{BudgetSpent, TooManyL
 use Rattle.player.specs.declared.trouble.Trouble.{Trouble}
 use Rattle.player.specs.declared.trouble.Trouble.TheVariants.{Unread, NotOpened, Impossible}
 
--- what a line is read as, or why it can't be read
+-- what a line is read as, or why it can't be read: it is none, or memory is wanting
 abbrev pub ReadsAs : List ℕ → Result Line Fault → Type 0
-ReadsAs line r = ((r ≡ Ok Blank) ↔ IsTrue (is_blank_line line)) × IfOk r (Says line)
+ReadsAs line r = ((r ≡ Ok Blank) ↔ IsTrue (is_blank_line line)) × IfOk r (Says line) × IfErr r (λ fault. (fault ≡ NoMemoryLeft) ⊎ IsNoLine line)
 
 -- from the start of a file up to this text, lines say nothing
 pub data Passes (file : Text) : Text → Type 0 where

@@ -1,25 +1,21 @@
 // A world that is played.
-ghost use Rattle.std.specs.Prelude.{◌≡◌, ◌-◌, Ok, Err, nat_le};
-ghost use Rattle.std.specs.Fn.{FnOnceReturnsAtMut};
+ghost use Rattle.std.specs.Prelude.{◌≡◌, ◌-◌, [], Ok, length, nat_le};
 ghost use Rattle.std.specs.Iterator.{IsFinite, UpTo};
-ghost use Rattle.parcels.specs.Book.{pick};
-ghost use Rattle.world.specs.declared.CannotHappen.TheVariants.{NeverSent};
-ghost use Rattle.world.specs.Outcome.{at_office};
-ghost use Rattle.world.specs.View.{limits_of, journal_of};
+ghost use Rattle.world.specs.Outcome.{Happens, Nothing, Comes, AtOffice};
+ghost use Rattle.world.specs.View.{limits_of, letters_of, journal_of};
 ghost use Rattle.player.specs.Limits.{most_played_letters};
-ghost use Rattle.player.specs.Happen.{spent, Spends, unanswered, one_thing, Plays};
-ghost use Rattle.player.specs.declared.trouble.Stop.TheVariants.{BudgetSpent};
+ghost use Rattle.player.specs.Happen.{spent, counted, Spends, SameLetters, unanswered, TicksAll, Plays};
 
 use crate::trouble::{Stop, Trouble};
 use lines::Line;
 use parcels::Answer;
-use world::{CannotHappen, World};
+use world::{Happening, World};
 
 // The most letters that are sent in a world that is played.
-pub const MAX_PLAYED_LETTERS: u32 = 256;
+pub const MAX_PLAYED_LETTERS: usize = 256;
 
 // Whether so many letters leave a world to be played on.
-fn few_enough(letters: u32) -> bool
+fn few_enough(letters: usize) -> bool
     ensures { result ≡ nat_le letters most_played_letters }
 {
     letters <= MAX_PLAYED_LETTERS
@@ -40,6 +36,7 @@ impl Player {
         Player { world, budget }
     }
 
+    // The world as it stands.
     pub fn world(&self) -> &World
         ensures { result.now ≡ self.now.world }
     {
@@ -60,21 +57,19 @@ impl Player {
     }
 
     // Lets one thing happen, which is counted down.
-    fn once<T, F: FnOnce(&mut World) -> Result<T, CannotHappen>>(
-        &mut self,
-        thing: F,
-    ) -> Result<T, Stop>
-        requires { F.IsAlwaysCallable thing }
-        ensures value { Spends self.old.budget self.old.world (FnOnceReturnsAtMut F.FnOnce thing self.old.world) result self.new.world }
+    fn once(&mut self, thing: Happening) -> Result<Option<Answer>, Stop>
+        ensures value { Spends self.old.budget (journal_of self.old.world) (Happens (limits_of self.old.world) (letters_of self.old.world) (journal_of self.old.world) thing.entry) result (journal_of self.new.world) }
         ensures after { self.new.budget ≡ self.old.budget - 1 }
+        ensures same { SameLetters self.old.world self.new.world }
     {
         self.spend()?;
-        Ok(thing(&mut self.world)?)
+        Ok(self.world.happen(thing)?)
     }
 
-    // What happened may have sent letters: whether they are few enough to go on.
+    // What happened may have sent letters: whether they are few enough to go on. In this stage they are: there are none.
     pub fn count_letters(&self) -> Result<(), Stop>
-        ensures { result ≡ Ok tt }
+        ensures value { result ≡ counted (length (letters_of self.now.world)) }
+        ensures few { result ≡ Ok tt }
     {
         if !few_enough(self.world.letters()) {
             return Err(Stop::TooManyLetters);
@@ -84,28 +79,28 @@ impl Player {
 
     // (Not one function with `hear`: what comes of each is another clause.)
     fn tick(&mut self, at: u32) -> Result<(), Stop>
-        ensures value { unanswered result ≡ one_thing self.old.budget (at_office (limits_of self.old.world).offices at) }
+        ensures value { Spends self.old.budget (journal_of self.old.world) (λ a ys. Nothing (AtOffice (limits_of self.old.world).offices at) a × (ys ≡ journal_of self.old.world)) (unanswered result) (journal_of self.new.world) }
         ensures after { self.new.budget ≡ self.old.budget - 1 }
-        ensures same { self.new.world ≡ self.old.world }
+        ensures same { SameLetters self.old.world self.new.world }
     {
-        self.once(|world| world.tick(at))?;
+        self.once(Happening::Tick { at })?;
         self.count_letters()
     }
 
-    fn hear(&mut self, letter: u32) -> Result<(), Stop>
-        ensures value { unanswered result ≡ one_thing self.old.budget (Err NeverSent) }
+    fn hear(&mut self, number: usize) -> Result<(), Stop>
+        ensures value { Spends self.old.budget (journal_of self.old.world) (λ a ys. Nothing (Comes (limits_of self.old.world).offices (letters_of self.old.world) number) a × (ys ≡ journal_of self.old.world)) (unanswered result) (journal_of self.new.world) }
         ensures after { self.new.budget ≡ self.old.budget - 1 }
-        ensures same { self.new.world ≡ self.old.world }
+        ensures same { SameLetters self.old.world self.new.world }
     {
-        self.once(|world| world.hear(letter))?;
+        self.once(Happening::Letter { number })?;
         self.count_letters()
     }
 
     // All clocks tick, from office 0 up: by number, which is what says whose clock it is.
     fn all_tick(&mut self) -> Result<(), Stop>
-        ensures value { result ≡ pick (nat_le (limits_of self.old.world).offices self.old.budget) (Ok tt) (Err BudgetSpent) }
-        ensures after { self.new.budget ≡ self.old.budget - (limits_of self.old.world).offices }
-        ensures same { self.new.world ≡ self.old.world }
+        ensures value { TicksAll self.old.budget (limits_of self.old.world).offices (unanswered result) self.new.budget }
+        ensures after { journal_of self.new.world ≡ journal_of self.old.world }
+        ensures same { SameLetters self.old.world self.new.world }
     {
         for at in 0..self.world.offices() {
             self.tick(at)?;
@@ -114,9 +109,10 @@ impl Player {
     }
 
     // These letters come once more, one after the other. In this stage none was sent, and so there are none.
-    fn hear_all<I: Iterator<Item = u32>>(&mut self, letters: I) -> Result<(), Stop>
+    fn hear_all<I: Iterator<Item = usize>>(&mut self, letters: I) -> Result<(), Stop>
         requires can { I.can_next letters }
         requires ends { IsFinite (I.remaining letters) }
+        requires none { letters_of self.old.world ≡ [] }
         ensures none { UpTo (I.remaining letters) 0 → (result ≡ Ok tt) × (self.new ≡ self.old) }
     {
         for letter in letters {
@@ -135,15 +131,16 @@ impl Player {
         match line {
             Line::Blank => {}
             Line::Opening { .. } => return Err(Trouble::OpenedAgain.into()),
-            Line::Call { at, call } => return self
-                .once(move |world| world.call(at, call))
-                .map(Some),
-            Line::Bytes { at, bytes } => return self
-                .once(move |world| world.bytes(at, bytes.as_slice()))
-                .map(Some),
+            Line::Call { at, call } => return self.once(Happening::Call { at, call }),
+            Line::Bytes { at, bytes } => {
+                return self.once(Happening::Bytes {
+                    at,
+                    row: bytes.as_slice(),
+                });
+            }
             Line::Tick { at } => self.tick(at)?,
             Line::AllTick => self.all_tick()?,
-            Line::Letter { number } => self.hear(number)?,
+            Line::Letter { number } => self.hear(number as usize)?,
             Line::AllLetters => self.hear_all(sent)?,
             Line::AllLettersLastFirst => self.hear_all(sent.rev())?,
         }

@@ -87,7 +87,7 @@ fn show_place(key: u32, step: Step, shown: &mut String) -> Result<(), Trouble>
 
 // Why a world stopped, as a line, where no line of its file is to blame: so the file ends. (No function with `show`:
 // each states a text of its own.)
-fn show_stop(heap: Global, what: &str, most: u32, shown: &mut String) -> Result<End, Trouble>
+fn show_stop(heap: Global, what: &str, most: usize, shown: &mut String) -> Result<End, Trouble>
     ensures { MatchResult result (λ end. (end ≡ Stopped) × (string_bytes shown.new ≡ string_bytes shown.old ++ stop_line most what.now)) (λ e. (e ≡ Impossible NoMemory) × (string_bytes shown.new ≡ string_bytes shown.old)) }
 {
     let line = format!(in heap; "stopped: more than {most} {what}\n")?;
@@ -107,7 +107,8 @@ fn places(heap: Global, world: &World) -> Result<String, Trouble>
     Ok(shown)
 }
 
-// A world file that is played: the lines that are left, how many things may happen, and what is shown so far.
+// A world file that is played: the lines that are left, how many things may happen, and what is shown so far. (Lines are
+// taken by `while let`: what a `for` over `&mut` lines leaves of them is not known behind it.)
 #[derive(Drop)]
 struct Playing<'a> {
     heap: Global,
@@ -161,6 +162,7 @@ impl<'a> Playing<'a> {
             if let Some(answer) = player.happen(read_line(self.heap, line)?)? {
                 show(self.heap, answer, &mut self.shown)?;
             }
+            // a call may have sent letters, too: its answer is shown first
             player.count_letters()?;
         }
         Ok(())
@@ -211,7 +213,12 @@ impl<'a> Playing<'a> {
                 )
             }
             Err(Stop::BudgetSpent) => {
-                show_stop(self.heap, "things happened", self.budget, &mut self.shown)
+                show_stop(
+                    self.heap,
+                    "things happened",
+                    self.budget as usize,
+                    &mut self.shown,
+                )
             }
             Err(Stop::Bad(trouble)) => Err(trouble),
         };

@@ -1,3 +1,4 @@
 pub mod Truth
 pub mod World
 pub mod Promise
+pub mod Beside

@@ -1,23 +1,37 @@
--- What is promised. Each is a statement, a type: a function whose contract names it owes the proof.
-use Rattle.std.specs.Prelude.{◌≡◌, ℕ, zero, suc, ◌+◌, ◌-◌, ◌*◌, ◌<◌, ◌≤◌, Bool, true, false, ◌&&◌, ◌||◌, ◌⊎◌, List, [], ◌∷◌, ◌++◌, length, Some, None, Ok, Err, Option, ◌==◌, nat_le, nat_lt, slice_index, slice_index_or}
-use Rattle.parcels.specs.Numbers.{fewest_offices, most_offices, most_parcels, most_sum, four_bytes, letter_bytes, all_below, words_a_parcel, words_more}
-use Rattle.parcels.specs.Book.{pick, origin, Book, has, own, is_here, was_handed_out, each_once, first_here, collected, paid_out}
+-- What is promised: read from top to bottom, with World.antt beside it, which says what can happen, and Truth.antt, what is true
+-- by the calls that were taken. Each promise is a statement; a function whose contract names it owes the proof.
+--
+-- How to read it. `(x : A) → B` is: for every A, which we call x, B. `A → B` is: if A, then B. `(x : A) × B` is: some A, which we call
+-- x, and B. `A × B` is: A, and B. `A ⊎ B` is: A, or B, or both. `⊥` never holds. `a ≡ b` is: they are the same. `f a b` is f of a and b,
+-- and `λ x. b` the function from x to b. `let x : A = a in b` is b, where x stands for a. `a.f` is the part f of a, and
+-- `record { f = a }` is made of such parts. `abbrev` and `unfoldable` say that a name stands for what follows, case by case
+-- where there are some; `data` lists the only ways in which something comes about; `Type 0` says that what is defined is a
+-- statement, or a kind of thing. `pick t a b` is a where t is true, and else b. `==`, `nat_lt` and `nat_le` test whether
+-- numbers are the same, less, and at most; `&&`, `||` and `not` join tests. A list is `[]`, with nothing in it, or `x ∷ xs`: x, and
+-- then the list xs; of what was said the last stands first. `length` is how many it has, and `slice_index_or xs i d` its item
+-- at i, counted from 0, or d where there is none. `suc n` is n + 1. `Some a` is an a that is there, `None` that there is none; `Ok`
+-- and `Err`, that something went well, or not. Lines that begin with `use` say where names come from: what a call
+-- comes to (`turned`, `answered`) is in `crates/parcels/specs/Calls.antt`, what a book has in `Book.antt` beside it.
+--
+-- `can` is the set of calls that a stage can do, `l` the limits, `w` the world, `o` an office's number, `p` a parcel's key, and `f`
+-- what an office's program may do.
+use Rattle.std.specs.Prelude.{◌≡◌, ℕ, zero, suc, ◌+◌, ◌-◌, ◌*◌, ◌<◌, ◌≤◌, Bool, true, false, ◌&&◌, ◌||◌, ◌⊎◌, List, [], ◌∷◌, length, Some, None, Ok, Err, Option, ◌==◌, nat_le, nat_lt, slice_index_or}
+use Rattle.parcels.specs.Numbers.{fewest_offices, most_offices, most_parcels, four_bytes, letter_bytes, all_below, words_a_parcel, words_more}
+use Rattle.parcels.specs.Book.{pick, origin, Book, has, own, is_here, was_handed_out, collected, paid_out}
 use Rattle.parcels.specs.Calls.{Stage, Limits, turned, place, answered, unreadable, not_refused, needs_news}
-use Rattle.parcels.specs.Laws.{StepsFit, AmountsFit, key_told, brings_known_key}
-use Rattle.parcels.specs.Shelf.{FirstTold, asked_on, ShelfListed}
 use Rattle.parcels.specs.declared.Kind.{Kind}
 use Rattle.parcels.specs.declared.Kind.TheVariants.{Accepted, SentOn, ComeIn, HandedOut}
 use Rattle.parcels.specs.declared.Step.{Step}
-use Rattle.parcels.specs.declared.Slip.{Slip}
 use Rattle.parcels.specs.declared.Call.{Call}
 use Rattle.parcels.specs.declared.Call.TheVariants.{Accept, Send, SlipAgain, TakeIn, HandOut, Pay, WhereIs, Here, Sums}
-use Rattle.parcels.specs.declared.Reason.TheVariants.{WrongSlip, NothingToPay}
+use Rattle.parcels.specs.declared.Reason.TheVariants.{NothingToPay}
 use Rattle.parcels.specs.declared.Refusal.{Refusal}
 use Rattle.parcels.specs.declared.Answer.{Answer}
 use Rattle.parcels.specs.declared.Answer.TheVariants.{Refused, Number, Given, At, NothingHeard, Two}
-use Rattle.promises.specs.Truth.{book_of, Move, moves, step_in}
+use Rattle.promises.specs.Truth.{book_of, Move, moves}
 use Rattle.wire.specs.Calls.{Reading}
-use Rattle.promises.specs.World.{Memory, Letter, Office, Said, World, Lived, In, IsGiven, IsSlipKnown, IsRowKnown, row_readable, after_news, Rounds, taken}
+use Rattle.letters.specs.Envelope.{Letter}
+use Rattle.promises.specs.World.{Memory, Office, Said, World, Lived, In, IsRowKnown, row_readable, after_news, Rounds, taken}
 
 -- the limits that an office can be opened with, in a stage
 abbrev pub GoodLimits : Stage → Limits → Type 0
@@ -77,7 +91,7 @@ unfoldable pub some_handed_out : List Move → Bool
 some_handed_out [] = false
 some_handed_out (s ∷ ss) = was_handed_out s.kind || some_handed_out ss
 
--- FIRST: each answer is right.
+-- ONE. EACH ANSWER IS RIGHT.
 
 -- a refusal is by the first reason to turn the call away, at its place
 abbrev pub RightRefusal : Limits → Book → ℕ → Call → Refusal → Type 0
@@ -103,8 +117,8 @@ RightWhere l xs o p (Number n) = ⊥
 RightWhere l xs o p (Given s) = ⊥
 RightWhere l xs o p (Two m n) = ⊥
 
--- an amount is paid only if the parcel was handed out in truth; where that isn't known yet, the reason is that
--- nothing is to be paid, at 0
+-- an amount is paid only if the parcel was handed out in truth; and it may be refused, as nothing to be paid, at 0, since
+-- that may not be known yet
 unfoldable pub RightPay : Limits → List Said → ℕ → ℕ → Answer → Type 0
 RightPay l xs o p (Number n) =
     (turned l o (truth l xs o) (Pay p) ≡ None) × (n ≡ (own (truth l xs o) p).amount) × (some_handed_out (in_truth l xs p) ≡ true)
@@ -138,13 +152,13 @@ Right can f =
     (l : Limits) (w : World) (o : ℕ) (r : Reading) (m : Memory) (a : Answer) (ls : List Letter) → GoodLimits can l → Lived f l w → o < l.offices →
     row_readable r ≡ true → IsRowKnown r w.said → f.Called l o (w.memory o) r m a ls → RightRow l w.said o r a
 
--- a call that is turned away changes nothing and sends nothing
+-- TWO. A CALL THAT IS TURNED AWAY CHANGES NOTHING: no word of memory; and it sends nothing.
 abbrev pub RefusalKeeps : Stage → Office → Type 0
 RefusalKeeps can f =
     (l : Limits) (w : World) (o : ℕ) (r : Reading) (m : Memory) (a : Answer) (ls : List Letter) → GoodLimits can l → Lived f l w → o < l.offices →
     row_readable r ≡ true → IsRowKnown r w.said → f.Called l o (w.memory o) r m a ls → not_refused a ≡ false → (m ≡ w.memory o) × (ls ≡ [])
 
--- SECOND: news comes, even if all letters until now are lost. After four rounds of news the office at which a
+-- THREE. NEWS COMES, even if all letters until now are lost. After four rounds of news the office at which a
 -- parcel was accepted knows where it is, and pays what was collected for it.
 abbrev pub NewsComes : Stage → Office → Type 0
 NewsComes can f =
@@ -156,7 +170,7 @@ NewsComes can f =
     × (turned l (origin p) b (Pay p) ≡ None → some_handed_out (in_truth l w.said p) ≡ true →
     f.Called l (origin p) (v.memory (origin p)) (Ok (Pay p)) m a ls → a ≡ Number (own b p).amount)
 
--- THIRD: memory and letters stay small, however often the same letter comes.
+-- FOUR. MEMORY AND LETTERS STAY SMALL, however often the same letter comes.
 
 -- letters that are not too long
 unfoldable pub short : List Letter → Bool
@@ -178,11 +192,14 @@ StaysSmall can f =
     × ((x : List ℕ) (m : Memory) (ls : List Letter) → f.Heard l o (w.memory o) x m ls → length ls ≤ l.offices)
     × ((r : Reading) (m : Memory) (a : Answer) (ls : List Letter) → f.Called l o (w.memory o) r m a ls → length ls ≤ l.offices)
 
--- EIGHT STATEMENTS. The first four are about what was taken everywhere, so they speak of no office's program:
--- that calls were made, each at an office that is there, with a slip that was given out, and answered right.
+-- WHAT WAS TAKEN EVERYWHERE, whatever programs run: calls were made, each at an office that is there, with a slip that was
+-- given out, and answered right.
 pub data Happened (l : Limits) : List Said → Type 0 where
   nothing_yet : Happened l []
   and_then : {xs : List Said} (o : ℕ) (r : Reading) (a : Answer) → Happened l xs → o < l.offices → row_readable r ≡ true → IsRowKnown r xs → RightRow l xs o r a → Happened l (record { at = o; reading = r; answer = a } ∷ xs)
+
+-- EIGHT STATEMENTS ON PARCELS. The first four are stated, and not proved yet: no function's contract names them. They are
+-- about what was taken everywhere, so they speak of no office's program.
 
 -- where a parcel is in its way: not accepted yet, at an office, on the way, or handed out
 pub data Way : Type 0 where
@@ -259,88 +276,4 @@ OldLetters can f =
     f.Called l o (w.memory o) (Ok c) n a ms → f.Called l o ((after_news w x.to m ls).memory o) (Ok c) n' a' ms' → a' ≡ a
 
 -- 7 and 8, that a slip works once and that a call that is turned away changes no book, speak of one book and
--- one call: they stand with the laws of books, SlipOnce and TurnedAway. SlipSpent, below, is more than 7: of all calls.
-
--- BESIDE THE EIGHT: that what offices live through happened; that answers tell of the steps in truth; which keys are given
--- out, how far steps go, which slips are spent, and what can be told of sums and of what is at an office, by what was taken
--- everywhere.
-
--- what offices live through happened: so what is true of all that happened is true of theirs
-abbrev pub LivedHappened : Stage → Office → Type 0
-LivedHappened can f = (l : Limits) (w : World) → GoodLimits can l → Lived f l w → Happened l w.said
-
--- the steps of a parcel that answers tell of, the oldest first
-unfoldable pub steps_told : List Said → ℕ → List Move
-steps_told [] p = []
-steps_told (x ∷ xs) p = steps_told xs p ++ step_in x.at x.reading x.answer p
-
--- they are its steps in truth: who heard all answers knows each parcel's way
-abbrev pub StepsTold : Type 0
-StepsTold = (can : Stage) (l : Limits) (xs : List Said) (p : ℕ) → GoodLimits can l → Happened l xs → steps_told xs p ≡ in_truth l xs p
-
--- the key that is given out by an answer to a row of bytes
-abbrev pub row_key_told : Reading → Answer → List ℕ
-row_key_told (Ok c) a = key_told c a
-row_key_told (Err e) a = []
-
--- the keys that were given out, at all offices together, the last first
-unfoldable pub keys_told : List Said → List ℕ
-keys_told [] = []
-keys_told (x ∷ xs) = row_key_told x.reading x.answer ++ keys_told xs
-
--- a key that this office gave out
-unfoldable pub IsKeyTold : ℕ → ℕ → List Said → Type 0
-IsKeyTold o key [] = ⊥
-IsKeyTold o key (x ∷ xs) = ((x.at ≡ o) × (row_key_told x.reading x.answer ≡ key ∷ [])) ⊎ IsKeyTold o key xs
-
--- no key was given out twice, whether at one office or at two; each that was tells the office that gave it out, and is of a
--- parcel in that one's book; the key of each slip which was given out is of a parcel in the book of the office that it
--- tells; so a call with such a slip, at whatever office, brings no key which that office has yet to give out; and each key in
--- a book tells an office that is there
-pub record KeysTold (l : Limits) (xs : List Said) : Type 0 where
-  pub once : (i j : ℕ) → i < length (keys_told xs) → j < length (keys_told xs) → slice_index (keys_told xs) i ≡ slice_index (keys_told xs) j → i ≡ j
-  pub ours : (o key : ℕ) → IsKeyTold o key xs → origin key ≡ o
-  pub kept : (i : ℕ) → i < length (keys_told xs) → has (truth l xs (origin (slice_index (keys_told xs) i))) (slice_index (keys_told xs) i) ≡ true
-  pub slips : (s : Slip) → IsGiven s xs → has (truth l xs (origin s.key)) s.key ≡ true
-  pub next : (o : ℕ) (c : Call) → IsSlipKnown c xs → brings_known_key o (truth l xs o) c ≡ true
-  pub offices : (o key : ℕ) → has (truth l xs o) key ≡ true → origin key < l.offices
-
--- that is so whatever happened: no two parcels that were accepted get one key
-abbrev pub NoKeyTwice : Type 0
-NoKeyTwice = (can : Stage) (l : Limits) (xs : List Said) → GoodLimits can l → Happened l xs → KeysTold l xs
-
--- No step in a book goes further than steps of its kind go, and no slip that was given out has one above four_bytes + 1. So
--- two words of memory and eight bytes of an answer hold every step; a slip can be entered again only where four bytes
--- hold its step.
-abbrev pub SlipsFit : Type 0
-SlipsFit =
-    (can : Stage) (l : Limits) (xs : List Said) → GoodLimits can l → Happened l xs →
-    ((o : ℕ) → StepsFit (truth l xs o)) × ((s : Slip) → IsGiven s xs → s.step ≤ four_bytes + 1)
-
--- a slip with which a parcel was taken in, at whatever office
-unfoldable pub IsTakenIn : Slip → List Said → Type 0
-IsTakenIn s [] = ⊥
-IsTakenIn s (x ∷ xs) = ((x.reading ≡ Ok (TakeIn s)) × (not_refused x.answer ≡ true)) ⊎ IsTakenIn s xs
-
--- it is spent: from then on it is turned away at all offices, as a slip that doesn't work, whatever else happens, and not
--- only by the book that taking the parcel in leaves
-abbrev pub SlipSpent : Type 0
-SlipSpent =
-    (can : Stage) (l : Limits) (xs : List Said) (o : ℕ) (s : Slip) → GoodLimits can l → Happened l xs → IsTakenIn s xs →
-    turned l o (truth l xs o) (TakeIn s) ≡ Some WrongSlip
-
--- A book has one entry for each parcel, at most 65,536 of them, and no amount above the largest. So eight bytes of an answer
--- hold each sum, and what is told of the parcels at the office is right: which is the first one from a key on, and all of them,
--- where one asks on. And one can: what was answered fits a call's field, however often one asked.
-pub record ShelfAndSums (b : Book) : Type 0 where
-  pub once : each_once b ≡ true
-  pub few : length b ≤ most_parcels
-  pub amounts : AmountsFit b
-  pub sums : (collected b ≤ most_sum) × (paid_out b ≤ most_sum)
-  pub first : (from : ℕ) → FirstTold b from (first_here b from)
-  pub listed : ShelfListed b
-  pub can_ask : (n : ℕ) → asked_on b n < four_bytes
-
--- that is so of each office's book, whatever happened
-abbrev pub ShelvesAndSums : Type 0
-ShelvesAndSums = (can : Stage) (l : Limits) (xs : List Said) (o : ℕ) → GoodLimits can l → Happened l xs → ShelfAndSums (truth l xs o)
+-- one call: they stand with the laws of books, SlipOnce and TurnedAway. SlipSpent, in Beside.antt, is more than 7: of all calls.

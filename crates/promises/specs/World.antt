@@ -9,16 +9,12 @@ use Rattle.parcels.specs.declared.Answer.{Answer}
 use Rattle.parcels.specs.declared.Answer.TheVariants.{Given}
 use Rattle.wire.specs.Layout.{readable}
 use Rattle.wire.specs.Calls.{Reading}
+use Rattle.letters.specs.Envelope.{Letter}
 use Rattle.promises.specs.Truth.{Taken}
 
 -- an office's memory: words, which stay small by a promise
 abbrev pub Memory : Type 0
 Memory = List ℕ
-
--- a letter: to which office, and its bytes, which are few and small by a promise
-pub record Letter : Type 0 where
-  pub to : ℕ
-  pub text : List ℕ
 
 -- An office, by what the contracts of its functions allow. All offices run the same program, each with its own
 -- number and the same limits, which it keeps beside its memory. Opened: which memory it may begin with. Called,

@@ -10,9 +10,11 @@ use Rattle.parcels.specs.declared.Answer.{Answer}
 use Rattle.parcels.specs.declared.Answer.TheVariants.{Refused, At}
 use Rattle.wire.specs.Calls.{Reading}
 use Rattle.rows.specs.Layout.{book_at}
-use Rattle.office.specs.Answering.{reply, Done}
-use Rattle.promises.specs.World.{Memory, Letter, Said, World, Lived, opened, called, heard, ticked}
-use Rattle.promises.specs.Promise.{GoodLimits, truth, RightWhere, RightPay, RightAnswer, RightRow, Right, RefusalKeeps, NewsComes, StaysSmall, NeverBack, OldLetters, short, LivedHappened, nothing_yet, and_then}
+use Rattle.letters.specs.Envelope.{Letter}
+use Rattle.session.specs.Answering.{reply, Done}
+use Rattle.promises.specs.World.{Memory, Said, World, Lived, opened, called, heard, ticked}
+use Rattle.promises.specs.Promise.{GoodLimits, truth, RightWhere, RightPay, RightAnswer, RightRow, Right, RefusalKeeps, NewsComes, StaysSmall, NeverBack, OldLetters, short, nothing_yet, and_then}
+use Rattle.promises.specs.Beside.{LivedHappened}
 use Rattle.theorems.specs.Ours.{ours}
 use Rattle.theorems.proofs.Stage.{turned_away, refused}
 use Rattle.theorems.proofs.Happened.{none_changed, memory_kept, no_letter}
@@ -39,7 +41,7 @@ right_row l xs o (Err e) a b g is h = h
 
 -- an answer that an office gives is right, where it is known that something happened, and not what
 pub right_now : (l : Limits) (w : World) (o : ℕ) (r : Reading) (a : Answer) (m : Memory) → GoodLimits thin l → ∥ Lived ours l w ∥₁ → o < l.offices → Done l o (w.memory o) r a m → RightRow l w.said o r a
-right_now l w o r a m g v there done = right_row l w.said o r a (book_at (w.memory o)) g (book_true_now l w o v there) done.answer
+right_now l w o r a m g v there done = right_row l w.said o r a (book_at (w.memory o)) g ((book_true_now l w v).each o there) done.answer
 
 pub answers_right : Right thin ours
 answers_right l w o r m a ls g v there fits known (done, _, _) = right_now l w o r a m g ∣ v ∣₁ there done

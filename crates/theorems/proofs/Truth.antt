@@ -9,13 +9,13 @@ use Rattle.parcels.specs.declared.Call.TheVariants.{Accept, Send, SlipAgain, Tak
 use Rattle.parcels.specs.declared.Answer.{Answer}
 use Rattle.wire.specs.Calls.{Reading}
 use Rattle.rows.specs.Layout.{book_at}
-use Rattle.office.specs.Answering.{reply, book_after}
+use Rattle.session.specs.Answering.{reply, book_after}
 use Rattle.promises.specs.Truth.{book_of}
 use Rattle.promises.specs.World.{World, Lived, taken}
 use Rattle.promises.specs.Promise.{truth}
 use Rattle.laws.proofs.Calls.{if_taken}
 use Rattle.truths.proofs.Books.{book_then, truth_here, truth_elsewhere}
-use Rattle.theorems.specs.Ours.{ours}
+use Rattle.theorems.specs.Ours.{ours, BooksAreTrue}
 use Rattle.theorems.proofs.Happened.{everywhere}
 
 -- a call that its checks let through is answered by no refusal
@@ -45,10 +45,10 @@ book_true : {l : Limits} {w : World} → Lived ours l w → (o : ℕ) → o < l.
 unfolding taken book_of
 book_true {l} =
     everywhere (λ xs o m. book_at m ≡ truth l xs o)
-    (λ o m x. x.empty)
+    (λ o m x. x.opened.laid_out.empty)
     (λ xs o m r a n done _ h. done.after ∙ sym (goes_on l o (book_at m) r a done.answer) ∙ ap (λ b. book_then l o b r a) h ∙ sym (truth_here l xs o r a))
     (λ xs o q m r a other h. h ∙ sym (truth_elsewhere l xs o q r a other))
 
 -- the same, where it is known that something happened, and not what
-pub book_true_now : (l : Limits) (w : World) (o : ℕ) → ∥ Lived ours l w ∥₁ → o < l.offices → book_at (w.memory o) ≡ truth l w.said o
-book_true_now l w o v there = ∥∥₁_elim v (hlevel props) (λ x. book_true x o there)
+pub book_true_now : (l : Limits) (w : World) → ∥ Lived ours l w ∥₁ → BooksAreTrue l w.said w.memory
+book_true_now l w v = record { each = λ o there. ∥∥₁_elim v (hlevel props) (λ x. book_true x o there) }

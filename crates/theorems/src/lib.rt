@@ -4,7 +4,8 @@
 #![tactic(auto)]
 
 ghost use Rattle.parcels.specs.Calls.{thin};
-ghost use Rattle.promises.specs.Promise.{Right, RefusalKeeps, NewsComes, StaysSmall, NeverBack, OldLetters, LivedHappened};
+ghost use Rattle.promises.specs.Promise.{Right, RefusalKeeps, NewsComes, StaysSmall, NeverBack, OldLetters};
+ghost use Rattle.promises.specs.Beside.{LivedHappened};
 ghost use Rattle.theorems.specs.Ours.{ours};
 
 // Each answer is right, whatever happened before.

@@ -9,7 +9,7 @@ use Rattle.std.proofs.Math.Seq.{get_or-append_seam}
 use Rattle.parcels.specs.declared.Kind.{Kind}
 use Rattle.parcels.specs.declared.Step.{Step}
 use Rattle.promises.specs.Truth.{Move, one_move}
-use Rattle.promises.specs.Promise.{steps_told}
+use Rattle.promises.specs.Beside.{steps_told}
 use Rattle.world.specs.declared.Exchange.{Exchange}
 use Rattle.world.specs.Journal.{history}
 use Rattle.world.proofs.Journal.{history_push}

@@ -1,11 +1,11 @@
 // What is said at the offices of a world.
 use parcels::{Answer, Call, Reason, Refusal, Slip};
 use std::process::Abort;
-use world::World;
+use world::{Happening, World};
 
 // What an office answers to a call that can happen.
 pub(crate) fn answer(rt: &impl Abort, world: &mut World, at: u32, call: Call) -> Answer {
-    let Ok(answer) = world.call(at, call) else {
+    let Ok(Some(answer)) = world.happen(Happening::Call { at, call }) else {
         panic!(rt; "a call at {at} that can't happen");
     };
     answer

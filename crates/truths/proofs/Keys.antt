@@ -13,7 +13,8 @@ use Rattle.parcels.specs.declared.Answer.{Answer}
 use Rattle.wire.specs.Calls.{Reading}
 use Rattle.promises.specs.Truth.{book_of}
 use Rattle.promises.specs.World.{Said, IsGiven, IsSlipKnown, IsRowKnown, taken}
-use Rattle.promises.specs.Promise.{truth, RightRow, Happened, nothing_yet, and_then, keys_told, IsKeyTold, NoKeyTwice}
+use Rattle.promises.specs.Promise.{truth, RightRow, Happened, nothing_yet, and_then}
+use Rattle.promises.specs.Beside.{keys_told, IsKeyTold, NoKeyTwice}
 use Rattle.laws.proofs.Did.{call_keeps}
 use Rattle.laws.proofs.Keys.{accepted_small, new_parts, new_unused, keys_once}
 use Rattle.truths.proofs.Books.{and_said, book_then, truth_here, truth_elsewhere, each_truth, if_said}

@@ -15,9 +15,10 @@ use Rattle.parcels.specs.declared.Refusal.{Refusal}
 use Rattle.parcels.specs.declared.Answer.{Answer}
 use Rattle.parcels.specs.declared.Answer.TheVariants.{Refused, Number}
 use Rattle.wire.specs.Calls.{Reading}
-use Rattle.promises.specs.Truth.{Taken, book_of, Move, one_move, move_of, moves_from, is_key, is_slip, is_number, step_in}
+use Rattle.promises.specs.Truth.{Taken, book_of, Move, one_move, move_of, moves_from}
 use Rattle.promises.specs.World.{Said, taken_by, taken}
-use Rattle.promises.specs.Promise.{truth, in_truth, RightRow, nothing_yet, and_then, steps_told, StepsTold}
+use Rattle.promises.specs.Promise.{truth, in_truth, RightRow, nothing_yet, and_then}
+use Rattle.promises.specs.Beside.{is_key, is_slip, is_number, step_in, steps_told, StepsTold}
 use Rattle.laws.proofs.Calls.{passed}
 use Rattle.laws.proofs.Keys.{accepted_small}
 use Rattle.truths.proofs.Books.{and_said}

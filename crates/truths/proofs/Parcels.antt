@@ -12,7 +12,8 @@ use Rattle.parcels.specs.declared.Reason.TheVariants.{OverLimit}
 use Rattle.parcels.specs.declared.Answer.{Answer}
 use Rattle.wire.specs.Calls.{Reading}
 use Rattle.promises.specs.World.{Said}
-use Rattle.promises.specs.Promise.{truth, RightRow, row_key_told}
+use Rattle.promises.specs.Promise.{truth, RightRow}
+use Rattle.promises.specs.Beside.{row_key_told}
 use Rattle.laws.proofs.Books.{has_put, has_new}
 use Rattle.laws.proofs.Calls.{passed, if_taken}
 use Rattle.laws.proofs.Did.{Did, nothing, accepts, comes, leaves, pays, did}

@@ -10,7 +10,8 @@ use Rattle.parcels.specs.declared.Reason.TheVariants.{OutOfRange, WrongSlip, Ove
 use Rattle.parcels.specs.declared.Answer.{Answer}
 use Rattle.wire.specs.Calls.{Reading}
 use Rattle.promises.specs.World.{Said}
-use Rattle.promises.specs.Promise.{truth, RightRow, Happened, nothing_yet, and_then, IsTakenIn, SlipSpent}
+use Rattle.promises.specs.Promise.{truth, RightRow, Happened, nothing_yet, and_then}
+use Rattle.promises.specs.Beside.{IsTakenIn, SlipSpent}
 use Rattle.laws.proofs.Calls.{passed, not_turned, if_taken, used_up, refused_again}
 use Rattle.laws.proofs.Steps.{never_works}
 use Rattle.truths.proofs.Books.{book_then, each_truth, if_said}

@@ -2,7 +2,7 @@
 // office's program. Each function does nothing: its contract is the theorem, and its proof is what the check asks for.
 #![tactic(auto)]
 
-ghost use Rattle.promises.specs.Promise.{StepsTold, NoKeyTwice, SlipsFit, SlipSpent, ShelvesAndSums};
+ghost use Rattle.promises.specs.Beside.{StepsTold, NoKeyTwice, SlipsFit, SlipSpent, ShelvesAndSums};
 
 // No key is given out twice, over all offices; each tells the office that gave it out; no slip brings one that its office has
 // yet to give out; and each key in a book tells an office that is there.

@@ -1,5 +1,5 @@
+mod Stations
 pub mod Journal
 mod Asking
-mod Stations
 mod Happens
 pub mod Happened

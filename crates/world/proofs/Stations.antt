@@ -1,16 +1,14 @@
 -- The offices of a world: what one of them did, all together.
-use Rattle.std.proofs.Common.{◌≡◌, ℕ, ◌<◌, Bool, true, false, eqb, eqb-true, List, [], ◌∷◌, length, map, get_or, set, refl, sym, ap, ◌∙◌, subst, arith}
+use Rattle.std.proofs.Common.{◌≡◌, ℕ, ◌<◌, Bool, true, false, eqb, eqb-true, List, [], ◌∷◌, length, Ok, Err, Result, IfOk, map, get_or, set, refl, sym, ap, ◌∙◌, subst, arith}
 use Rattle.std.proofs.lemmas.List.{get_or-map, map-set, get_or-set_same, get_or-set_other, length-map, length-set}
 use Rattle.std.proofs.lemmas.Bool.Decides.{nat_tests}
 use mathlib.Core.Path.{fun_ext}
 use Rattle.parcels.specs.Book.{pick}
-use Rattle.parcels.specs.declared.Answer.{Answer}
-use Rattle.wire.specs.Calls.{Reading, Reads}
+use Rattle.parcels.specs.Calls.{Limits}
 use Rattle.book.specs.declared.opening.Opening.{Opening}
 use Rattle.moves.specs.Stage.{stage_limits, limits_of}
-use Rattle.office.specs.Answering.{Done, RowDone}
 use Rattle.promises.specs.World.{Memory, with_memory}
-use Rattle.theorems.specs.Ours.{Fresh}
+use Rattle.session.specs.Exchanging.{Begun}
 use Rattle.world.specs.declared.station.Station.{Station}
 use Rattle.world.specs.Stations.{words_of, memory_at, IsOpened, Numbered}
 
@@ -19,9 +17,9 @@ pub memory_there : (ss : List Station) (o : ℕ) (x : Station) → o < length ss
 memory_there ss o x there is = get_or-map words_of ss o x [] there ∙ ap words_of is
 
 -- what is so of an office that is there, whatever stands for those that are not, is so of its memory
-pub fresh_at : (ss : List Station) (o p : ℕ) → o < length ss → ((d : Station) → Fresh p (words_of (get_or ss o d))) → Fresh p (memory_at ss o)
-fresh_at [] o p there fresh = absurd (omega arith)
-fresh_at (x ∷ xs) o p there fresh = subst (Fresh p) (sym (get_or-map words_of (x ∷ xs) o x [] there)) (fresh x)
+pub begun_at : (l : Limits) (ss : List Station) (o : ℕ) → o < length ss → ((d : Station) → Begun l o (words_of (get_or ss o d))) → Begun l o (memory_at ss o)
+begun_at l [] o there begins = absurd (omega arith)
+begun_at l (x ∷ xs) o there begins = subst (Begun l o) (sym (get_or-map words_of (x ∷ xs) o x [] there)) (begins x)
 
 -- one office's memory changed
 pub memory_set : (ss : List Station) (o : ℕ) (y : Station) → o < length ss → memory_at (set ss o y) ≡ with_memory (memory_at ss) o (words_of y)
@@ -45,11 +43,9 @@ numbered_set ss o n p x y there is same numbered k d low = at (eqb k o) refl
     at false e =
         subst (λ (s : Station). IsOpened s.opening n k p) (sym (get_or-set_other ss o k y d (grind (arith, nat_tests)))) (numbered k d (omega (arith, low, length-set ss o y)))
 
--- what an office did by what it was opened with, it did by the world's limits and its number in it; bytes that were read
--- once were read by it as the same
-pub done_there : (ss : List Station) (o n p : ℕ) (x : Station) (bytes : List ℕ) (r : Reading) (a : Answer) (m : Memory) → o < length ss → get_or ss o x ≡ x → Numbered ss n p →
-    ((s : Reading) → Reads bytes s → r ≡ s) → RowDone (limits_of x.opening) x.opening.own (words_of x) bytes a m → Done (stage_limits n p) o (memory_at ss o) r a m
-done_there ss o n p x bytes r a m there is numbered only row =
+-- what is so of an office by what it was opened with and by its words is so of it by the world's limits and its number there
+pub done_there : (ss : List Station) (o n p : ℕ) (x : Station) (P : Limits → ℕ → Memory → Type 0) → o < length ss → get_or ss o x ≡ x → Numbered ss n p → P (limits_of x.opening) x.opening.own (words_of x) → P (stage_limits n p) o (memory_at ss o)
+done_there ss o n p x P there is numbered so =
     let opened : IsOpened x.opening n o p = subst (λ (s : Station). IsOpened s.opening n o p) is (numbered o x there) in
     let limits : limits_of x.opening ≡ stage_limits n p = ap (λ k. stage_limits k x.opening.parcels) opened.0 ∙ ap (stage_limits n) opened.2 in
-    rw (only row.reading row.reads, memory_there ss o x there is, ← limits, ← opened.1) row.done
+    rw (memory_there ss o x there is, ← limits, ← opened.1) so

@@ -1,4 +1,5 @@
 pub mod Stations
+pub mod Mail
 pub mod Journal
 pub mod View
 pub mod Opening

@@ -2,8 +2,9 @@
 use Rattle.std.specs.Prelude.{◌≡◌, ℕ, ◌<◌, true, false, List, [], length, map, Ok, Err, Result, vec_items, slice_index_or}
 use Rattle.book.specs.Opening.{in_range}
 use Rattle.book.specs.declared.opening.Opening.{Opening}
+use Rattle.moves.specs.Stage.{stage_limits}
 use Rattle.promises.specs.World.{Memory}
-use Rattle.theorems.specs.Ours.{Fresh}
+use Rattle.session.specs.Exchanging.{Begun}
 use Rattle.world.specs.declared.CannotHappen.{CannotHappen}
 use Rattle.world.specs.declared.CannotHappen.TheVariants.{BadLimits, NoOffice, NoSuchCall, NeverGiven, NeverSent, NoMemory}
 use Rattle.world.specs.declared.station.Station.{Station}
@@ -26,7 +27,7 @@ Numbered xs offices parcels = (k : ℕ) (d : Station) → k < length xs → IsOp
 
 -- what an office opens with: the words that its limits ask for, with an empty book; else why it can't be opened
 abbrev pub OpensStation : ℕ → ℕ → ℕ → Result Station CannotHappen → Type 0
-OpensStation offices own parcels (Ok x) = (in_range offices own parcels ≡ true) × IsOpened x.opening offices own parcels × Fresh parcels (words_of x)
+OpensStation offices own parcels (Ok x) = (in_range offices own parcels ≡ true) × IsOpened x.opening offices own parcels × Begun (stage_limits offices parcels) own (words_of x)
 OpensStation offices own parcels (Err BadLimits) = in_range offices own parcels ≡ false
 OpensStation offices own parcels (Err NoMemory) = in_range offices own parcels ≡ true
 OpensStation offices own parcels (Err NoOffice) = ⊥

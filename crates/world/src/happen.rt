@@ -1,14 +1,16 @@
 // The things that can happen in a world.
-ghost use Rattle.std.specs.Prelude.{◌≡◌, ◌<◌, [], ◌∷◌, ◌++◌, Err, Decides, IsErr, vec_items, vec_len, vec_capacity};
+ghost use Rattle.std.specs.Prelude.{◌≡◌, ◌<◌, ◌⊎◌, false, [], ◌∷◌, ◌++◌, length, Decides, IsErr, OnOk, vec_items, vec_len, vec_capacity};
 ghost use Rattle.promises.specs.World.{IsGiven, IsRowKnown};
-ghost use Rattle.world.specs.declared.CannotHappen.TheVariants.{NeverSent};
+ghost use Rattle.theorems.specs.Ours.{BooksAreTrue};
 ghost use Rattle.world.specs.Journal.{history};
 ghost use Rattle.world.specs.Opening.{Opens};
-ghost use Rattle.world.specs.Outcome.{Came, Called, at_office};
-ghost use Rattle.world.specs.View.{limits_of, journal_of, memories};
+ghost use Rattle.world.specs.Outcome.{at_office, AtOffice, Came, Called, Comes, Happens, is_call};
+ghost use Rattle.world.specs.View.{limits_of, letters_of, journal_of, memories, memory_of, SameSaid};
 
-use crate::station::Station;
-use crate::{CannotHappen, Exchange, World};
+use crate::mail::Mail;
+use crate::station::{Asked, Station};
+use crate::{CannotHappen, Exchange, Happening, World};
+use letters::ENVELOPE_BYTES;
 use parcels::{Answer, Call, Slip};
 use std::alloc::Global;
 use wire::{MAX_CALL_BYTES, UnreadableCall, read_call, write_call};
@@ -23,6 +25,7 @@ fn write_down(journal: &mut Vec<Exchange>, exchange: Exchange)
 
 impl World {
     // A post with so many offices, each opened with this limit of parcels.
+    #[tactic(auto, using(letters::proofs::Row::none_in))]
     pub fn open(heap: Global, offices: u32, parcels: u32) -> Result<World, CannotHappen>
         ensures { Opens offices parcels result }
     {
@@ -33,10 +36,13 @@ impl World {
             let station = Station::open(heap, offices, own, parcels)?;
             opened.push(station)?;
         }
+        let lent = vec![in heap; 0; ENVELOPE_BYTES * offices.max(parcels) as usize]?;
         Ok(World {
             parcels,
             stations: opened,
+            mail: Mail::new(heap),
             journal: Vec::new(heap),
+            lent,
         })
     }
 
@@ -75,10 +81,12 @@ impl World {
     }
 
     // How many letters were sent: none, in this stage.
-    pub fn letters(&self) -> u32
-        ensures { result ≡ 0 }
+    #[tactic(auto, using(crate::proofs::Happens::none_yet))]
+    pub fn letters(&self) -> usize
+        ensures value { result ≡ length (letters_of self.now) }
+        ensures none { letters_of self.now ≡ [] }
     {
-        0
+        self.mail.len()
     }
 
     // Whether an office is there.
@@ -91,25 +99,42 @@ impl World {
         Ok(())
     }
 
-    // An office's clock ticks: nothing comes of it, in this stage.
-    pub fn tick(&self, clock: u32) -> Result<(), CannotHappen>
-        ensures { result ≡ at_office (limits_of self.now).offices clock }
+    // An office's clock ticks.
+    fn tick(&mut self, at: u32) -> Result<(), CannotHappen>
+        ensures value { AtOffice (limits_of self.old).offices at result }
+        ensures same { SameSaid self.old self.new }
+        ensures kept { memories self.new ≡ memories self.old }
     {
-        // the office has nothing to do yet
-        self.check_office(clock)
+        self.check_office(at)?;
+        // before the office has its turn, so that nothing is done where there is no memory for its letters
+        self.mail.reserve(self.parcels as usize)?;
+        let sent = self.stations[at as usize].tick(&mut self.lent);
+        self.mail.collect(&self.lent, sent);
+        Ok(())
     }
 
-    // A letter comes, by its number among all that were sent: none was, in this stage.
-    pub fn hear(&self, _letter: u32) -> Result<(), CannotHappen>
-        ensures { result ≡ Err NeverSent }
+    // A letter comes, by its number among all that were sent, to the office to which it goes.
+    fn hear(&mut self, number: usize) -> Result<(), CannotHappen>
+        ensures value { Comes (limits_of self.old).offices (letters_of self.old) number result }
+        ensures same { SameSaid self.old self.new }
+        ensures kept { memories self.new ≡ memories self.old }
     {
-        Err(CannotHappen::NeverSent)
+        let Some(envelope) = self.mail.get(number) else {
+            return Err(CannotHappen::NeverSent);
+        };
+        let at = envelope.office();
+        self.check_office(at)?;
+        let most = self.offices();
+        self.mail.reserve(most as usize)?;
+        let sent = self.stations[at as usize].hear(envelope.letter(), &mut self.lent);
+        self.mail.collect(&self.lent, sent);
+        Ok(())
     }
 
     // A row of bytes comes to an office as a call.
-    pub fn bytes(&mut self, at: u32, row: &[u8]) -> Result<Answer, CannotHappen>
+    fn bytes(&mut self, at: u32, row: &[u8]) -> Result<Answer, CannotHappen>
         ensures value { Came (limits_of self.old) (journal_of self.old) at row.now result (journal_of self.new) }
-        ensures same { limits_of self.new ≡ limits_of self.old }
+        ensures same { (limits_of self.new ≡ limits_of self.old) × (letters_of self.new ≡ letters_of self.old) }
         ensures kept { IsErr result → memories self.new ≡ memories self.old }
     {
         let reading = read_call(row);
@@ -117,9 +142,11 @@ impl World {
         if !self.slip_is_known(reading) {
             return Err(CannotHappen::NeverGiven);
         }
-        // before the office is asked, so that nothing is done where there is no memory to write it down
+        let most = self.offices();
+        self.mail.reserve(most as usize)?;
         self.journal.reserve(1)?;
-        let answer = self.stations[at as usize].ask(row);
+        let Asked { answer, letters } = self.stations[at as usize].ask(row, &mut self.lent);
+        self.mail.collect(&self.lent, letters);
         write_down(
             &mut self.journal,
             Exchange {
@@ -133,9 +160,9 @@ impl World {
 
     // A clerk makes a call at an office: it goes there as bytes, written into lent ones with room for the longest call, so
     // that its bytes want no heap.
-    pub fn call(&mut self, at: u32, call: Call) -> Result<Answer, CannotHappen>
+    fn call(&mut self, at: u32, call: Call) -> Result<Answer, CannotHappen>
         ensures value { Called (limits_of self.old) (journal_of self.old) at call result (journal_of self.new) }
-        ensures same { limits_of self.new ≡ limits_of self.old }
+        ensures same { (limits_of self.new ≡ limits_of self.old) × (letters_of self.new ≡ letters_of self.old) }
         ensures kept { IsErr result → memories self.new ≡ memories self.old }
     {
         let mut row = [0; MAX_CALL_BYTES];
@@ -143,5 +170,28 @@ impl World {
             return Err(CannotHappen::NoSuchCall);
         };
         self.bytes(at, &row[..len])
+    }
+
+    // Lets one thing happen, and gives the answer, if it has one: a call's answer is right, by all that was said before at
+    // all offices. What can't happen changes nothing.
+    #[tactic(auto, using(crate::proofs::Happened::books_true))]
+    pub fn happen(&mut self, happening: Happening) -> Result<Option<Answer>, CannotHappen>
+        ensures value { Happens (limits_of self.old) (letters_of self.old) (journal_of self.old) happening.entry result (journal_of self.new) }
+        ensures same { (limits_of self.new ≡ limits_of self.old) × (letters_of self.new ≡ letters_of self.old) }
+        ensures kept { (IsErr result ⊎ (is_call happening.entry ≡ false)) → memories self.new ≡ memories self.old }
+        ensures books { BooksAreTrue (limits_of self.new) (history (journal_of self.new)) (memory_of self.new) }
+    {
+        match happening {
+            Happening::Call { at, call } => self.call(at, call).map(Some),
+            Happening::Bytes { at, row } => self.bytes(at, row).map(Some),
+            Happening::Letter { number } => {
+                self.hear(number)?;
+                Ok(None)
+            }
+            Happening::Tick { at } => {
+                self.tick(at)?;
+                Ok(None)
+            }
+        }
     }
 }

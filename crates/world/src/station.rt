@@ -1,39 +1,70 @@
 // An office of the world, with memory of its own.
-ghost use Rattle.std.specs.Prelude.{◌≡◌, vec_items};
+ghost use Rattle.std.specs.Prelude.{◌≡◌, ◌≤◌, length, vec_items};
 ghost use Rattle.moves.specs.Stage.{limits_of};
 ghost use Rattle.book.specs.Ready.{Ready};
-ghost use Rattle.office.specs.Opening.{Opens};
-ghost use Rattle.office.specs.Answering.{RowDone};
-ghost use Rattle.theorems.specs.Ours.{WordsFit};
+ghost use Rattle.session.specs.Opening.{Opens};
+ghost use Rattle.session.specs.Exchanging.{Begins, RowCalled, Heard, Ticked, Sent, lent_for_news, lent_for_tick};
 
 use crate::CannotHappen;
 use book::opening::Opening;
-use office::Office;
 use parcels::{Answer, Refusal};
+use session::Session;
 use std::alloc::Global;
 use wire::{ANSWER_BYTES, read_answer};
 
-// Opens an office over lent memory. (This and `ask` are no methods: what is known of memory that a function changed is known
-// of its argument, and not of a field that it was lent from.)
+// What an office answered, and how many letters it sent.
+#[derive(Clone, Copy)]
+pub(crate) struct Asked {
+    pub answer: Answer,
+    pub letters: usize,
+}
+
+// Opens an office over lent memory. (This and the next three are no methods: what is known of memory that a function changed is
+// known of its argument, and not of a field that it was lent from.)
+
 fn open(offices: u32, own: u32, parcels: u32, memory: &mut [u32]) -> Result<Opening, Refusal>
     ensures value { Opens offices own parcels memory.old memory.new result }
-    ensures words { WordsFit memory.new }
+    ensures begun { Begins offices own parcels memory.old memory.new result }
 {
-    Office::open(offices, own, parcels, memory)
+    Session::open(offices, own, parcels, memory)
 }
 
 // What an office answers to a row of bytes, read from the bytes that it writes. They are lent, so the count of those
 // that were written comes beside them: an office has no heap. Its memory is lent for this one call.
-fn ask(opening: Opening, memory: &mut [u32], row: &[u8]) -> Answer
+fn ask(opening: Opening, memory: &mut [u32], row: &[u8], lent: &mut [u8]) -> Asked
     requires ready { Ready opening.own opening.parcels memory.old }
-    ensures value { RowDone (limits_of opening) opening.own memory.old row.now result memory.new }
+    requires room { lent_for_news (limits_of opening) ≤ length lent.old }
+    ensures value { Sent (RowCalled (limits_of opening) opening.own memory.old row.now result.answer) lent.old lent.new result.letters memory.new }
     ensures ready { Ready opening.own opening.parcels memory.new }
-    ensures words { WordsFit memory.new }
 {
     let mut out = [0; ANSWER_BYTES];
-    let mut office = Office::over(opening, memory);
-    let len = office.call(row, &mut out).unwrap();
-    read_answer(&out[..len]).unwrap()
+    let replied = Session::over(opening, memory)
+        .call(row, &mut out, lent)
+        .unwrap();
+    Asked {
+        answer: read_answer(&out[..replied.answer]).unwrap(),
+        letters: replied.letters,
+    }
+}
+
+// An office hears a letter.
+fn hear(opening: Opening, memory: &mut [u32], letter: &[u8], lent: &mut [u8]) -> usize
+    requires ready { Ready opening.own opening.parcels memory.old }
+    requires room { lent_for_news (limits_of opening) ≤ length lent.old }
+    ensures value { Sent (Heard (limits_of opening) opening.own memory.old letter.now) lent.old lent.new result memory.new }
+    ensures ready { Ready opening.own opening.parcels memory.new }
+{
+    Session::over(opening, memory).hear(letter, lent).unwrap()
+}
+
+// An office's clock ticks.
+fn tick(opening: Opening, memory: &mut [u32], lent: &mut [u8]) -> usize
+    requires ready { Ready opening.own opening.parcels memory.old }
+    requires room { lent_for_tick (limits_of opening) ≤ length lent.old }
+    ensures value { Sent (Ticked (limits_of opening) opening.own memory.old) lent.old lent.new result memory.new }
+    ensures ready { Ready opening.own opening.parcels memory.new }
+{
+    Session::over(opening, memory).tick(lent).unwrap()
 }
 
 // What an office was opened with, and its memory. The invariant: a book may stand there.
@@ -65,12 +96,30 @@ impl Station {
         Ok(Station { opening, memory })
     }
 
-    // What it answers to a row of bytes.
-    pub(crate) fn ask(&mut self, row: &[u8]) -> Answer
-        ensures value { RowDone (limits_of self.old.opening) self.old.opening.own (words_of self.old) row.now result (words_of self.new) }
-        ensures words { WordsFit (words_of self.new) }
+    // What it answers to a row of bytes. Letters are written into lent bytes, here and below.
+    pub(crate) fn ask(&mut self, row: &[u8], lent: &mut [u8]) -> Asked
+        requires room { lent_for_news (limits_of self.old.opening) ≤ length lent.old }
+        ensures value { Sent (RowCalled (limits_of self.old.opening) self.old.opening.own (words_of self.old) row.now result.answer) lent.old lent.new result.letters (words_of self.new) }
         ensures same_opening { self.new.opening ≡ self.old.opening }
     {
-        ask(self.opening, &mut self.memory, row)
+        ask(self.opening, &mut self.memory, row, lent)
+    }
+
+    // It hears a letter, and says how many it sends.
+    pub(crate) fn hear(&mut self, letter: &[u8], lent: &mut [u8]) -> usize
+        requires room { lent_for_news (limits_of self.old.opening) ≤ length lent.old }
+        ensures value { Sent (Heard (limits_of self.old.opening) self.old.opening.own (words_of self.old) letter.now) lent.old lent.new result (words_of self.new) }
+        ensures same_opening { self.new.opening ≡ self.old.opening }
+    {
+        hear(self.opening, &mut self.memory, letter, lent)
+    }
+
+    // Its clock ticks, and it says how many letters it sends.
+    pub(crate) fn tick(&mut self, lent: &mut [u8]) -> usize
+        requires room { lent_for_tick (limits_of self.old.opening) ≤ length lent.old }
+        ensures value { Sent (Ticked (limits_of self.old.opening) self.old.opening.own (words_of self.old)) lent.old lent.new result (words_of self.new) }
+        ensures same_opening { self.new.opening ≡ self.old.opening }
+    {
+        tick(self.opening, &mut self.memory, lent)
     }
 }

@@ -1,5 +1,5 @@
 use Rattle.std.proofs.Common.{◌≡◌, ◌∙◌, take, length}
-use Rattle.promises.specs.Promise.{steps_told}
+use Rattle.promises.specs.Beside.{steps_told}
 use Rattle.world.specs.Journal.{history}
 use Rattle.tracking.proofs.Steps.{none_told, next_number, kept, put}
 use Rattle.tracking.proofs.steps_by.Goals.{in-Some+in_ok-insert, in_default}
