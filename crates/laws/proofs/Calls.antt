@@ -1,17 +1,17 @@
 -- What a call does with a book: a slip works once; a call that is turned away changes nothing.
-use Rattle.std.proofs.Common.{◌≡◌, ℕ, suc, Bool, true, false, ◌&&◌, ◌||◌, eqb, ltb, is_some, Some, None, Option, refl, ap, arith, le-ltb}
+use Rattle.std.proofs.Common.{◌≡◌, ℕ, suc, Bool, true, false, ◌&&◌, ◌||◌, eqb, ltb, is_some, Some, None, Option, refl, ap, arith, eqb-true, le-ltb}
 use Rattle.std.proofs.lemmas.Bool.{and_parts}
 use borrow.Author.Tests.{clash}
 use Rattle.parcels.specs.Numbers.{call_number}
-use Rattle.parcels.specs.Book.{pick, Book, has, own, with_own, has_room}
+use Rattle.parcels.specs.Book.{pick, Book, has, own, with_own, leaves_it_here, has_room}
 use Rattle.parcels.specs.Calls.{Limits, good_fields, checked, turned, after, changed, told, answered, not_refused, unless, refusal, came_entry, slip_works}
 use Rattle.parcels.specs.Laws.{SlipOnce, TurnedAway}
 use Rattle.parcels.specs.declared.Slip.{Slip}
 use Rattle.parcels.specs.declared.Entry.{Entry}
 use Rattle.parcels.specs.declared.Call.{Call}
-use Rattle.parcels.specs.declared.Call.TheVariants.{TakeIn}
+use Rattle.parcels.specs.declared.Call.TheVariants.{TakeIn, HandOut}
 use Rattle.parcels.specs.declared.Reason.{Reason}
-use Rattle.parcels.specs.declared.Reason.TheVariants.{OutOfRange, WrongSlip, OverLimit}
+use Rattle.parcels.specs.declared.Reason.TheVariants.{OutOfRange, NotHere, WrongSlip, OtherOffice, OverLimit}
 use Rattle.parcels.specs.declared.Answer.{Answer}
 use Rattle.parcels.specs.declared.Answer.TheVariants.{Refused}
 use Rattle.laws.proofs.Books.{own_put, has_new}
@@ -31,6 +31,14 @@ passed false rest r h = absurd (cc)
 -- the same of a check of two parts
 pub both_passed : (t u : Bool) (rest : Option Reason) (r : Reason) → pick (t && u) rest (Some r) ≡ None → (t ≡ true) × (u ≡ true)
 both_passed t u rest r h = and_parts t u (passed (t && u) rest r h).0
+
+-- a parcel that can be handed out is here, and for this office
+pub can_hand_out : (l : Limits) (o : ℕ) (b : Book) (key : ℕ) → checked l o b (HandOut key) ≡ None → (has b key ≡ true) × (leaves_it_here (own b key).kind ≡ true) × ((own b key).dest ≡ o)
+unfolding checked
+can_hand_out l o b key free =
+    let (at, for) = passed (has b key && leaves_it_here (own b key).kind) (pick (eqb (own b key).dest o) None (Some OtherOffice)) NotHere free in
+    let (there, here) = and_parts (has b key) (leaves_it_here (own b key).kind) at in
+    (there, here, eqb-true (own b key).dest o (passed (eqb (own b key).dest o) None OtherOffice for).0)
 
 -- a call that is not refused was not turned away
 pub not_turned : (l : Limits) (o : ℕ) (b : Book) (c : Call) → not_refused (answered l o b c) ≡ true → turned l o b c ≡ None

@@ -4,11 +4,11 @@ use Rattle.std.proofs.lemmas.Bool.{false_from_ne_true, cases_Bool}
 use Rattle.std.proofs.lemmas.Bool.Decides.{nat_tests}
 use Rattle.parcels.specs.Numbers.{most_parcels, keys_of_an_office}
 use Rattle.parcels.specs.Book.{pick, origin, Book, has, own, with_own, has_room, accepted}
-use Rattle.parcels.specs.Calls.{Limits, new_key, accepted_entry, came_entry, paid_entry}
+use Rattle.parcels.specs.Calls.{Limits, new_key, accepted_entry, left_entry, came_entry, paid_entry}
 use Rattle.parcels.specs.Laws.{GivenInOrder, brings_known_key, ByCalls, opened, called, KeysOnce, GivenOnce}
 use Rattle.parcels.specs.declared.Entry.{Entry}
 use Rattle.parcels.specs.declared.Call.{Call}
-use Rattle.laws.proofs.Books.{has_put, has_new, still_has, put_length}
+use Rattle.laws.proofs.Books.{own_key, has_put, has_new, still_has, put_length}
 use Rattle.laws.proofs.Did.{Did, nothing, accepts, comes, leaves, pays, did}
 
 -- how many were accepted, after an entry was put in
@@ -109,8 +109,12 @@ keeps : (l : Limits) (o : ℕ) (keys : List ℕ) (b : Book) {c : Call} {more : L
 keeps l o keys b nothing k limit x = x
 keeps l o keys b (accepts dest amount room _) k limit x = fresh_ordered l o keys b (accepted_entry o (new_key o b) dest amount) refl room limit x
 keeps l o keys b (comes s paid works room _) k limit x = known_ordered l o keys b (came_entry o s paid) k room x
-keeps l o keys b (leaves key e there here is step most _) k limit x = let old : has b e.key ≡ true = rw is there in known_ordered l o keys b e (rw old) (rw old) x
-keeps l o keys b (pays key there) k limit x = known_ordered l o keys b (paid_entry key (own b key)) (rw there) (rw there) x
+keeps l o keys b (leaves key kind to there here most) k limit x =
+    let old : has b (own b key).key ≡ true = rw (own_key b key there) there in
+    known_ordered l o keys b (left_entry kind to (own b key)) (rw old) (rw old) x
+keeps l o keys b (pays key there) k limit x =
+    let old : has b (own b key).key ≡ true = rw (own_key b key there) there in
+    known_ordered l o keys b (paid_entry (own b key)) (rw old) (rw old) x
 
 ordered : {l : Limits} {o : ℕ} {keys : List ℕ} {b : Book} → ByCalls l o keys b → l.parcels ≤ most_parcels → Ordered l o keys b
 unfolding has accepted

@@ -4,14 +4,14 @@ use Rattle.std.proofs.lemmas.Bool.{cases_Bool}
 use Rattle.std.proofs.lemmas.Bool.Decides.{nat_tests}
 use Rattle.parcels.specs.Numbers.{four_bytes, all_below, call_values}
 use Rattle.parcels.specs.Book.{Book, has, own, with_own, leaves_it_here, has_room}
-use Rattle.parcels.specs.Calls.{Limits, after, accepted_entry, came_entry, paid_entry, new_key, slip_works}
+use Rattle.parcels.specs.Calls.{Limits, after, accepted_entry, left_entry, came_entry, paid_entry, new_key, slip_works}
 use Rattle.parcels.specs.Laws.{most_step, StepFits, StepsFit, StepsStayFit}
 use Rattle.parcels.specs.declared.Kind.{Kind}
 use Rattle.parcels.specs.declared.Kind.TheVariants.{Accepted, SentOn, ComeIn, HandedOut}
 use Rattle.parcels.specs.declared.Slip.{Slip}
 use Rattle.parcels.specs.declared.Entry.{Entry}
 use Rattle.parcels.specs.declared.Call.{Call}
-use Rattle.laws.proofs.Books.{put_is, each_put}
+use Rattle.laws.proofs.Books.{own_key, put_is, each_put}
 use Rattle.laws.proofs.Did.{Did, nothing, accepts, comes, leaves, pays, did, call_keeps}
 
 -- a parcel that is at an office may still make a step
@@ -29,8 +29,8 @@ kept : (l : Limits) (o : ℕ) (b : Book) {c : Call} {keys : List ℕ} {b' : Book
 kept l o b nothing small fit = fit
 kept l o b (accepts dest amount room _) small fit = each_put StepFits b (accepted_entry o (new_key o b) dest amount) fit zero-le
 kept l o b (comes s paid works room _) small fit = each_put StepFits b (came_entry o s paid) fit (grind (arith, nat_tests))
-kept l o b (leaves key e there here is step most _) small fit = each_put StepFits b e fit (omega (arith, step, most, here_low (own b key) here (fit key there)))
-kept l o b (pays key there) small fit = each_put StepFits b (paid_entry key (own b key)) fit (fit key there)
+kept l o b (leaves key kind to there here most) small fit = each_put StepFits b (left_entry kind to (own b key)) fit (omega (arith, most, here_low (own b key) here (fit key there)))
+kept l o b (pays key there) small fit = each_put StepFits b (paid_entry (own b key)) fit (fit key there)
 
 pub stay_fit : StepsStayFit
 unfolding has
@@ -54,9 +54,8 @@ rising l o b (accepts dest amount room _) new key there =
 rising l o b (comes s paid works room _) new key there =
     up b (came_entry o s paid) key
     (λ is. let low : (own b s.key).step < s.step = newer o b s works (rw is there) in rw (← is) (omega (arith, low)))
-rising l o b (leaves k e had here is step most _) new key there =
-    up b e key (λ same. let at : k ≡ key = sym is ∙ same in rw (← at) (omega (arith, step)))
-rising l o b (pays k had) new key there = up b (paid_entry k (own b k)) key (λ same. rw same (omega arith))
+rising l o b (leaves k kind to had here most) new key there = up b (left_entry kind to (own b k)) key (λ is. rw (← (sym (own_key b k had) ∙ is)) (omega arith))
+rising l o b (pays k had) new key there = up b (paid_entry (own b k)) key (λ is. rw (← (sym (own_key b k had) ∙ is)) (omega arith))
 
 -- so a slip that doesn't work at an office never will
 pub never_works : (l : Limits) (o : ℕ) (b : Book) (c : Call) (s : Slip) → (has_room l.parcels b ≡ true → has b (new_key o b) ≡ false) → slip_works o b s ≡ false → slip_works o (after l o b c) s ≡ false

@@ -3,8 +3,8 @@
 use Rattle.std.proofs.Common.{◌≡◌, ℕ, zero, suc, ◌+◌, ◌*◌, ◌≤◌, Bool, true, false, List, [], ◌∷◌, length, refl, ap, arith}
 use Rattle.std.proofs.lemmas.Bool.Decides.{nat_tests}
 use Rattle.parcels.specs.Numbers.{most_amount, most_parcels}
-use Rattle.parcels.specs.Book.{pick, Book, has, own, with_own, was_handed_out, each_once, counted_here, how_many_here, collected_for, collected, paid_for, paid_out}
-use Rattle.parcels.specs.Calls.{Limits, new_key, accepted_entry, came_entry, paid_entry}
+use Rattle.parcels.specs.Book.{pick, Book, has, own, was_handed_out, each_once, counted_here, how_many_here, collected_for, collected, paid_for, paid_out}
+use Rattle.parcels.specs.Calls.{Limits, new_key, accepted_entry, left_entry, came_entry, paid_entry}
 use Rattle.parcels.specs.Laws.{AmountFits, AmountsFit, SumsStayFit}
 use Rattle.parcels.specs.declared.Kind.TheVariants.{HandedOut}
 use Rattle.parcels.specs.declared.Entry.{Entry}
@@ -51,8 +51,8 @@ kept : (l : Limits) (o : ℕ) (b : Book) {c : Call} {keys : List ℕ} {b' : Book
 kept l o b nothing fit = fit
 kept l o b (accepts dest amount room low) fit = each_put AmountFits b (accepted_entry o (new_key o b) dest amount) fit low
 kept l o b (comes s paid works room low) fit = each_put AmountFits b (came_entry o s paid) fit low
-kept l o b (leaves key e there here is step most same) fit = each_put AmountFits b e fit (omega (arith, same, fit key there))
-kept l o b (pays key there) fit = each_put AmountFits b (paid_entry key (own b key)) fit (fit key there)
+kept l o b (leaves key kind to there here most) fit = each_put AmountFits b (left_entry kind to (own b key)) fit (fit key there)
+kept l o b (pays key there) fit = each_put AmountFits b (paid_entry (own b key)) fit (fit key there)
 
 -- a parcel of the largest amount, handed out and paid for
 abbrev large_entry : ℕ → Entry

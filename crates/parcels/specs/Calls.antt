@@ -2,6 +2,7 @@
 use Rattle.std.specs.Prelude.{ℕ, suc, ◌+◌, ◌*◌, Bool, true, false, not, ◌&&◌, ◌||◌, Some, None, Option, ◌==◌, nat_le, nat_lt}
 use Rattle.parcels.specs.Numbers.{call_number, keys_of_an_office, most_amount}
 use Rattle.parcels.specs.Book.{pick, origin, Book, has, own, with_own, is_here, was_sent_on, has_room, accepted, how_many_here, first_here, collected, paid_out}
+use Rattle.parcels.specs.declared.Kind.{Kind}
 use Rattle.parcels.specs.declared.Kind.TheVariants.{Accepted, SentOn, ComeIn, HandedOut}
 use Rattle.parcels.specs.declared.Slip.{Slip}
 use Rattle.parcels.specs.declared.Entry.{Entry}
@@ -105,21 +106,25 @@ slip_from o e = record { key = e.key; step = e.step; from = o; to = e.to; dest =
 abbrev pub accepted_entry : ℕ → ℕ → ℕ → ℕ → Entry
 accepted_entry o key dest amount = record { key = key; step = 0; kind = Accepted; to = o; dest = dest; amount = amount; paid = false }
 
--- the next step: it is sent on
+-- the next step of a parcel that is here: it leaves
+abbrev pub left_entry : Kind → ℕ → Entry → Entry
+left_entry kind to e = record e { step = suc e.step; kind = kind; to = to }
+
+-- it is sent on, to an office
 abbrev pub sent_entry : Entry → ℕ → Entry
-sent_entry e to = record { key = e.key; step = suc e.step; kind = SentOn; to = to; dest = e.dest; amount = e.amount; paid = e.paid }
+sent_entry e to = left_entry SentOn to e
+
+-- it is handed out, at this office
+abbrev pub handed_entry : ℕ → Entry → Entry
+handed_entry o e = left_entry HandedOut o e
 
 -- the step after the slip's: it comes in
 abbrev pub came_entry : ℕ → Slip → Bool → Entry
 came_entry o s paid = record { key = s.key; step = suc s.step; kind = ComeIn; to = o; dest = s.dest; amount = s.amount; paid = paid }
 
--- the next step: it is handed out, at the office that it is for
-abbrev pub handed_entry : ℕ → ℕ → Entry → Entry
-handed_entry o key e = record { key = key; step = suc e.step; kind = HandedOut; to = o; dest = o; amount = e.amount; paid = e.paid }
-
 -- paying makes no step
-abbrev pub paid_entry : ℕ → Entry → Entry
-paid_entry key e = record { key = key; step = e.step; kind = e.kind; to = e.to; dest = e.dest; amount = e.amount; paid = true }
+abbrev pub paid_entry : Entry → Entry
+paid_entry e = record e { paid = true }
 
 -- the book after a call that was taken
 unfoldable pub changed : ℕ → Book → Call → Book
@@ -127,8 +132,8 @@ changed o b (Accept dest amount) = with_own b (accepted_entry o (new_key o b) de
 changed o b (Send key to) = with_own b (sent_entry (own b key) to)
 changed o b (SlipAgain key) = b
 changed o b (TakeIn s) = with_own b (came_entry o s (has b s.key && (own b s.key).paid))
-changed o b (HandOut key) = with_own b (handed_entry o key (own b key))
-changed o b (Pay key) = with_own b (paid_entry key (own b key))
+changed o b (HandOut key) = with_own b (handed_entry o (own b key))
+changed o b (Pay key) = with_own b (paid_entry (own b key))
 changed o b (WhereIs key) = b
 changed o b (Here from) = b
 changed o b Sums = b

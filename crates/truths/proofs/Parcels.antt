@@ -2,7 +2,7 @@
 use Rattle.std.proofs.Common.{◌≡◌, ℕ, true, eqb, eqb-true, inl, inr, List, [], ◌∷◌, None, Ok, Err, refl, sym, subst, arith}
 use Rattle.std.proofs.lemmas.Bool.{cases_Bool}
 use Rattle.parcels.specs.Book.{pick, Book, has, own, with_own, has_room}
-use Rattle.parcels.specs.Calls.{Limits, checked, after, changed, told, answered, not_refused, new_key, accepted_entry, came_entry, paid_entry}
+use Rattle.parcels.specs.Calls.{Limits, checked, after, changed, told, answered, not_refused, new_key, accepted_entry, left_entry, came_entry, paid_entry}
 use Rattle.parcels.specs.Laws.{number_in}
 use Rattle.parcels.specs.declared.Slip.{Slip}
 use Rattle.parcels.specs.declared.Entry.{Entry}
@@ -14,7 +14,7 @@ use Rattle.wire.specs.Calls.{Reading}
 use Rattle.promises.specs.World.{Said}
 use Rattle.promises.specs.Promise.{truth, RightRow}
 use Rattle.promises.specs.Beside.{row_key_told}
-use Rattle.laws.proofs.Books.{has_put, has_new}
+use Rattle.laws.proofs.Books.{own_key, has_put, has_new}
 use Rattle.laws.proofs.Calls.{passed, if_taken}
 use Rattle.laws.proofs.Did.{Did, nothing, accepts, comes, leaves, pays, did}
 use Rattle.truths.proofs.Books.{book_then}
@@ -35,8 +35,8 @@ module _ (K : ℕ → Type 0) (b : Book) (old : AllKeys K b) where
   brings l o nothing new slip = old
   brings l o (accepts dest amount room _) new slip = put (accepted_entry o (new_key o b) dest amount) (new room)
   brings l o (comes s paid works room _) new slip = put (came_entry o s paid) (slip s refl)
-  brings l o (leaves key e there here is step most _) new slip = put e (subst K (sym is) (old key there))
-  brings l o (pays key there) new slip = put (paid_entry key (own b key)) (old key there)
+  brings l o (leaves key kind to there here most) new slip = put (left_entry kind to (own b key)) (subst K (sym (own_key b key there)) (old key there))
+  brings l o (pays key there) new slip = put (paid_entry (own b key)) (subst K (sym (own_key b key there)) (old key there))
 
   -- what is so of each key in a book, of the one that a slip brings, and of the next new one, is so of each key after a call
   pub call_brings : (l : Limits) (o : ℕ) (c : Call) → (has_room l.parcels b ≡ true → K (new_key o b)) → ((s : Slip) → c ≡ TakeIn s → K s.key) → AllKeys K (after l o b c)
