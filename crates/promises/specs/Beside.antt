@@ -14,10 +14,10 @@ use Rattle.parcels.specs.declared.Call.TheVariants.{Accept, Send, SlipAgain, Tak
 use Rattle.parcels.specs.declared.Reason.TheVariants.{WrongSlip}
 use Rattle.parcels.specs.declared.Answer.{Answer}
 use Rattle.parcels.specs.declared.Answer.TheVariants.{Refused, Number, Given, At, NothingHeard, Two}
-use Rattle.promises.specs.Truth.{Move, one_move}
+use Rattle.promises.specs.Truth.{truth, in_truth, Move, one_move}
 use Rattle.wire.specs.Calls.{Reading}
 use Rattle.promises.specs.World.{Office, Said, World, Lived, IsGiven, IsSlipKnown}
-use Rattle.promises.specs.Promise.{GoodLimits, truth, in_truth, Happened}
+use Rattle.promises.specs.Promise.{GoodLimits, Happened}
 
 -- what offices live through happened: so what is true of all that happened is true of theirs
 abbrev pub LivedHappened : Stage → Office → Type 0

@@ -1,4 +1,4 @@
-pub mod Truth
 pub mod World
+pub mod Truth
 pub mod Promise
 pub mod Beside

@@ -28,22 +28,14 @@ use Rattle.parcels.specs.declared.Reason.TheVariants.{NothingToPay}
 use Rattle.parcels.specs.declared.Refusal.{Refusal}
 use Rattle.parcels.specs.declared.Answer.{Answer}
 use Rattle.parcels.specs.declared.Answer.TheVariants.{Refused, Number, Given, At, NothingHeard, Two}
-use Rattle.promises.specs.Truth.{book_of, Move, moves}
 use Rattle.wire.specs.Calls.{Reading}
 use Rattle.letters.specs.Envelope.{Letter}
-use Rattle.promises.specs.World.{Memory, Office, Said, World, Lived, In, IsRowKnown, row_readable, after_news, Rounds, taken}
+use Rattle.promises.specs.World.{Memory, Office, Said, World, Lived, In, IsRowKnown, row_readable, after_news, Rounds}
+use Rattle.promises.specs.Truth.{truth, Move, in_truth}
 
 -- the limits that an office can be opened with, in a stage
 abbrev pub GoodLimits : Stage → Limits → Type 0
 GoodLimits can l = (fewest_offices ≤ l.offices) × (l.offices ≤ most_offices) × (l.parcels ≤ most_parcels) × ((k : ℕ) → l.can k ≡ can k)
-
--- an office's book in truth, by what was taken everywhere
-abbrev pub truth : Limits → List Said → ℕ → Book
-truth l xs o = book_of l o (taken xs) []
-
--- the steps of a parcel in truth, by what was taken everywhere
-abbrev pub in_truth : Limits → List Said → ℕ → List Move
-in_truth l xs p = moves l (taken xs) p
 
 -- what stands for a step that is not there
 abbrev pub no_move : Move

@@ -1,21 +1,24 @@
 -- What is true of books and parcels, by the calls that were taken at all offices.
-use Rattle.std.specs.Prelude.{ℕ, Bool, not, ◌&&◌, List, [], ◌∷◌, ◌++◌, is_some, ◌==◌}
+use Rattle.std.specs.Prelude.{ℕ, Bool, List, [], ◌∷◌, ◌++◌, Ok, Err, ◌==◌}
 use Rattle.parcels.specs.Book.{pick, Book}
-use Rattle.parcels.specs.Calls.{Limits, turned, after, new_key}
+use Rattle.parcels.specs.Calls.{Limits, after, new_key, not_refused}
 use Rattle.parcels.specs.declared.Kind.{Kind}
 use Rattle.parcels.specs.declared.Kind.TheVariants.{Accepted, SentOn, ComeIn, HandedOut}
 use Rattle.parcels.specs.declared.Call.{Call}
 use Rattle.parcels.specs.declared.Call.TheVariants.{Accept, Send, SlipAgain, TakeIn, HandOut, Pay, WhereIs, Here, Sums}
+use Rattle.parcels.specs.declared.Answer.{Answer}
+use Rattle.wire.specs.Calls.{Reading}
+use Rattle.promises.specs.World.{Said}
 
--- a call that was taken, and at which office
-pub record Taken : Type 0 where
-  pub at : ℕ
-  pub call : Call
+-- an office's book after it answered a row of bytes: a call that was not refused was taken
+abbrev pub book_then : Limits → ℕ → Book → Reading → Answer → Book
+book_then l o b (Ok c) a = pick (not_refused a) (after l o b c) b
+book_then l o b (Err e) a = b
 
--- an office's book after all that was taken, from the book that it had
-unfoldable pub book_of : Limits → ℕ → List Taken → Book → Book
-book_of l o [] b = b
-book_of l o (t ∷ ts) b = book_of l o ts (pick (t.at == o) (after l o b t.call) b)
+-- an office's book in truth, by all that was said: at the start it is empty
+unfoldable pub truth : Limits → List Said → ℕ → Book
+truth l [] o = []
+truth l (x ∷ xs) o = pick (x.at == o) (book_then l o (truth l xs o) x.reading x.answer) (truth l xs o)
 
 -- a step that a parcel took in truth; its number is its place in the list of them
 pub record Move : Type 0 where
@@ -26,25 +29,25 @@ pub record Move : Type 0 where
 abbrev pub one_move : Bool → Kind → ℕ → List Move
 one_move taken kind o = pick taken (record { kind = kind; office = o } ∷ []) []
 
--- the step of this parcel that a call makes at an office with this book: none if the call is turned away, or is
--- about another parcel
-unfoldable pub move_of : Limits → Book → ℕ → Call → ℕ → List Move
-move_of l b o (Accept dest amount) p = one_move (not (is_some (turned l o b (Accept dest amount))) && new_key o b == p) Accepted o
-move_of l b o (Send key to) p = one_move (not (is_some (turned l o b (Send key to))) && key == p) SentOn o
-move_of l b o (SlipAgain key) p = []
-move_of l b o (TakeIn s) p = one_move (not (is_some (turned l o b (TakeIn s))) && s.key == p) ComeIn o
-move_of l b o (HandOut key) p = one_move (not (is_some (turned l o b (HandOut key))) && key == p) HandedOut o
-move_of l b o (Pay key) p = []
-move_of l b o (WhereIs key) p = []
-move_of l b o (Here from) p = []
-move_of l b o Sums p = []
+-- the step of this parcel that a call makes which an office with this book takes: none if the call is about another parcel, or
+-- makes no step
+abbrev pub move_of : ℕ → Book → Call → ℕ → List Move
+move_of o b (Accept dest amount) p = one_move (new_key o b == p) Accepted o
+move_of o b (Send key to) p = one_move (key == p) SentOn o
+move_of o b (SlipAgain key) p = []
+move_of o b (TakeIn s) p = one_move (s.key == p) ComeIn o
+move_of o b (HandOut key) p = one_move (key == p) HandedOut o
+move_of o b (Pay key) p = []
+move_of o b (WhereIs key) p = []
+move_of o b (Here from) p = []
+move_of o b Sums p = []
 
--- the steps of a parcel in all that was taken, from the books that the offices had
-unfoldable pub moves_from : Limits → List Taken → (ℕ → Book) → ℕ → List Move
-moves_from l [] books p = []
-moves_from l (t ∷ ts) books p =
-    move_of l (books t.at) t.at t.call p ++ moves_from l ts (λ o. pick (o == t.at) (after l o (books o) t.call) (books o)) p
+-- the same by what was answered: where a call was refused, and where a row is no call, no step is made
+abbrev pub move_then : ℕ → Book → Reading → Answer → ℕ → List Move
+move_then o b (Ok c) a p = pick (not_refused a) (move_of o b c p) []
+move_then o b (Err e) a p = []
 
--- all steps of a parcel: at the start all books are empty
-abbrev pub moves : Limits → List Taken → ℕ → List Move
-moves l ts p = moves_from l ts (λ o. []) p
+-- the steps of a parcel in truth, by all that was said, the oldest first
+unfoldable pub in_truth : Limits → List Said → ℕ → List Move
+in_truth l [] p = []
+in_truth l (x ∷ xs) p = in_truth l xs p ++ move_then x.at (truth l xs x.at) x.reading x.answer p

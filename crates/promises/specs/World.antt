@@ -1,7 +1,7 @@
 -- Offices, the lines between them, and everything that can happen.
 use Rattle.std.specs.Prelude.{◌≡◌, ℕ, zero, suc, ◌<◌, ◌≤◌, Bool, true, ◌⊎◌, List, [], ◌∷◌, ◌++◌, length, drop, Ok, Err, ◌==◌}
 use Rattle.parcels.specs.Book.{pick}
-use Rattle.parcels.specs.Calls.{Limits, not_refused}
+use Rattle.parcels.specs.Calls.{Limits}
 use Rattle.parcels.specs.declared.Slip.{Slip}
 use Rattle.parcels.specs.declared.Call.{Call}
 use Rattle.parcels.specs.declared.Call.TheVariants.{Accept, Send, SlipAgain, TakeIn, HandOut, Pay, WhereIs, Here, Sums}
@@ -10,7 +10,6 @@ use Rattle.parcels.specs.declared.Answer.TheVariants.{Given}
 use Rattle.wire.specs.Layout.{readable}
 use Rattle.wire.specs.Calls.{Reading}
 use Rattle.letters.specs.Envelope.{Letter}
-use Rattle.promises.specs.Truth.{Taken}
 
 -- an office's memory: words, which stay small by a promise
 abbrev pub Memory : Type 0
@@ -118,13 +117,3 @@ Round f l w v = (u : World) × Ticks f l w l.offices u × Come f l u (drop (leng
 unfoldable pub Rounds : ℕ → Office → Limits → World → World → Type 0
 Rounds zero f l w v = w ≡ v
 Rounds (suc n) f l w v = (u : World) × Round f l w u × Rounds n f l u v
-
--- a call that was not refused was taken
-abbrev pub taken_by : ℕ → Reading → Answer → List Taken
-taken_by o (Ok c) a = pick (not_refused a) (record { at = o; call = c } ∷ []) []
-taken_by o (Err e) a = []
-
--- the calls that were taken, in the order in which they were
-unfoldable pub taken : List Said → List Taken
-taken [] = []
-taken (x ∷ xs) = taken xs ++ taken_by x.at x.reading x.answer

@@ -12,8 +12,9 @@ use Rattle.wire.specs.Calls.{Reading}
 use Rattle.rows.specs.Layout.{book_at}
 use Rattle.letters.specs.Envelope.{Letter}
 use Rattle.session.specs.Answering.{reply, Done}
+use Rattle.promises.specs.Truth.{truth}
 use Rattle.promises.specs.World.{Memory, Said, World, Lived, opened, called, heard, ticked}
-use Rattle.promises.specs.Promise.{GoodLimits, truth, RightWhere, RightPay, RightAnswer, RightRow, Right, RefusalKeeps, NewsComes, StaysSmall, NeverBack, OldLetters, short, nothing_yet, and_then}
+use Rattle.promises.specs.Promise.{GoodLimits, RightWhere, RightPay, RightAnswer, RightRow, Right, RefusalKeeps, NewsComes, StaysSmall, NeverBack, OldLetters, short, nothing_yet, and_then}
 use Rattle.promises.specs.Beside.{LivedHappened}
 use Rattle.theorems.specs.Ours.{ours}
 use Rattle.theorems.proofs.Stage.{turned_away, refused}

@@ -10,11 +10,10 @@ use Rattle.parcels.specs.declared.Answer.{Answer}
 use Rattle.wire.specs.Calls.{Reading}
 use Rattle.rows.specs.Layout.{book_at}
 use Rattle.session.specs.Answering.{reply, book_after}
-use Rattle.promises.specs.Truth.{book_of}
-use Rattle.promises.specs.World.{World, Lived, taken}
-use Rattle.promises.specs.Promise.{truth}
+use Rattle.promises.specs.Truth.{book_then, truth}
+use Rattle.promises.specs.World.{World, Lived}
 use Rattle.laws.proofs.Calls.{if_taken}
-use Rattle.truths.proofs.Books.{book_then, truth_here, truth_elsewhere}
+use Rattle.truths.proofs.Books.{truth_here, truth_elsewhere}
 use Rattle.theorems.specs.Ours.{ours, BooksAreTrue}
 use Rattle.theorems.proofs.Happened.{everywhere}
 
@@ -42,7 +41,7 @@ goes_on l o b (Err e) a h = refl
 
 -- the book that each office has in memory is the one that it has in truth
 book_true : {l : Limits} {w : World} → Lived ours l w → (o : ℕ) → o < l.offices → book_at (w.memory o) ≡ truth l w.said o
-unfolding taken book_of
+unfolding truth
 book_true {l} =
     everywhere (λ xs o m. book_at m ≡ truth l xs o)
     (λ o m x. x.opened.laid_out.empty)

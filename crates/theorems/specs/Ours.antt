@@ -4,7 +4,7 @@ use Rattle.parcels.specs.Calls.{Limits}
 use Rattle.rows.specs.Layout.{book_at}
 use Rattle.session.specs.Exchanging.{Begun, Called, Heard, Ticked}
 use Rattle.promises.specs.World.{Memory, Said, Office}
-use Rattle.promises.specs.Promise.{truth}
+use Rattle.promises.specs.Truth.{truth}
 
 -- what opening a session, and a call, a letter and a tick there come to
 abbrev pub ours : Office

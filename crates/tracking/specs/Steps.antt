@@ -2,8 +2,7 @@
 use Rattle.std.specs.Prelude.{◌≡◌, ℕ, ◌-◌, List, [], length, Option, Some, None, option_map, slice_get, ◌==◌}
 use Rattle.parcels.specs.Calls.{Limits}
 use Rattle.parcels.specs.declared.Step.{Step}
-use Rattle.promises.specs.Truth.{Move, one_move}
-use Rattle.promises.specs.Promise.{in_truth}
+use Rattle.promises.specs.Truth.{in_truth, Move, one_move}
 use Rattle.promises.specs.Beside.{step_in, steps_told}
 use Rattle.world.specs.declared.Exchange.{Exchange}
 use Rattle.world.specs.Journal.{history}

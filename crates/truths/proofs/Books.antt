@@ -1,61 +1,29 @@
 -- The books that offices have in truth, as one thing more is said: only the book of the office that answered goes on, by a
 -- call that it didn't refuse.
-use Rattle.std.proofs.Common.{◌≡◌, ℕ, Bool, true, false, eqb, eqb-true, eq-eqb, List, [], ◌∷◌, ◌++◌, Ok, Err, refl, sym, ◌∙◌, subst}
+use Rattle.std.proofs.Common.{◌≡◌, ℕ, Bool, true, false, eqb, eqb-true, eq-eqb, List, [], ◌∷◌, Ok, Err, refl, sym, subst}
 use Rattle.parcels.specs.Book.{pick, Book}
 use Rattle.parcels.specs.Calls.{Limits, after, not_refused}
 use Rattle.parcels.specs.declared.Call.{Call}
 use Rattle.parcels.specs.declared.Answer.{Answer}
 use Rattle.wire.specs.Layout.{readable}
 use Rattle.wire.specs.Calls.{Reading}
-use Rattle.promises.specs.Truth.{Taken, book_of}
-use Rattle.promises.specs.World.{Said, row_readable, taken_by, taken}
-use Rattle.promises.specs.Promise.{truth, Happened, nothing_yet, and_then}
+use Rattle.promises.specs.Truth.{book_then, truth}
+use Rattle.promises.specs.World.{Said, row_readable}
+use Rattle.promises.specs.Promise.{Happened, nothing_yet, and_then}
 
 -- what was said, with one thing more
 abbrev pub and_said : ℕ → Reading → Answer → List Said → List Said
 and_said o r a xs = record { at = o; reading = r; answer = a } ∷ xs
 
--- an office's book in truth, after it answered a row of bytes
-abbrev pub book_then : Limits → ℕ → Book → Reading → Answer → Book
-book_then l o b (Ok c) a = pick (not_refused a) (after l o b c) b
-book_then l o b (Err e) a = b
-
-book_of_append : (l : Limits) (o : ℕ) (ts us : List Taken) (b : Book) → book_of l o (ts ++ us) b ≡ book_of l o us (book_of l o ts b)
-unfolding book_of
-book_of_append l o [] us b = refl
-book_of_append l o (t ∷ ts) us b = book_of_append l o ts us (pick (eqb t.at o) (after l o b t.call) b)
-
--- the book in truth, with one thing more said
-said_more : (l : Limits) (xs : List Said) (o q : ℕ) (r : Reading) (a : Answer) → truth l (and_said q r a xs) o ≡ book_of l o (taken_by q r a) (truth l xs o)
-unfolding taken
-said_more l xs o q r a = book_of_append l o (taken xs) (taken_by q r a) []
-
--- by an answer the book of the office that gave it goes on, and that of another stays
-goes_on : (l : Limits) (o : ℕ) (b : Book) (r : Reading) (a : Answer) → book_of l o (taken_by o r a) b ≡ book_then l o b r a
-unfolding book_of
-goes_on l o b (Ok c) a = go (not_refused a)
-  where
-    go : (t : Bool) → book_of l o (pick t (record { at = o; call = c } ∷ []) []) b ≡ pick t (after l o b c) b
-    go true = rw (eq-eqb o o refl)
-    go false = refl
-goes_on l o b (Err e) a = refl
-
-stays : (l : Limits) (o q : ℕ) (b : Book) (r : Reading) (a : Answer) → eqb q o ≡ false → book_of l o (taken_by q r a) b ≡ b
-unfolding book_of
-stays l o q b (Ok c) a other = go (not_refused a)
-  where
-    go : (t : Bool) → book_of l o (pick t (record { at = q; call = c } ∷ []) []) b ≡ b
-    go true = rw other
-    go false = refl
-stays l o q b (Err e) a other = refl
-
 -- the book of the office that answered goes on
 pub truth_here : (l : Limits) (xs : List Said) (o : ℕ) (r : Reading) (a : Answer) → truth l (and_said o r a xs) o ≡ book_then l o (truth l xs o) r a
-truth_here l xs o r a = said_more l xs o o r a ∙ goes_on l o (truth l xs o) r a
+unfolding truth
+truth_here l xs o r a = rw (eq-eqb o o refl)
 
 -- and every other one stays as it was
 pub truth_elsewhere : (l : Limits) (xs : List Said) (o q : ℕ) (r : Reading) (a : Answer) → eqb q o ≡ false → truth l (and_said q r a xs) o ≡ truth l xs o
-truth_elsewhere l xs o q r a other = said_more l xs o q r a ∙ stays l o q (truth l xs o) r a other
+unfolding truth
+truth_elsewhere l xs o q r a other = rw other
 
 -- what is so of the one that went on, and of the others as they were, is so of each
 pub each_truth : (l : Limits) (xs : List Said) (o : ℕ) (r : Reading) (a : Answer) (P : ℕ → Book → Type 0) → P o (book_then l o (truth l xs o) r a) → ((q : ℕ) → eqb o q ≡ false → P q (truth l xs q)) →
@@ -77,7 +45,7 @@ if_said l o b (Err e) a P same new = same
 
 -- what is so of the empty book, and stays so by each call whose values four bytes hold, is so of each book in truth
 pub each_book : {l : Limits} {xs : List Said} (P : Book → Type 0) → P [] → ((o : ℕ) (b : Book) (c : Call) → readable c ≡ true → P b → P (after l o b c)) → Happened l xs → (o : ℕ) → P (truth l xs o)
-unfolding taken book_of
+unfolding truth
 each_book P empty call nothing_yet o = empty
 each_book {l} P empty call (and_then {xs} q r a before in' fits known right) o =
     let was : P (truth l xs q) = each_book P empty call before q in

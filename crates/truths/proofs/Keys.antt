@@ -11,13 +11,13 @@ use Rattle.parcels.specs.declared.Call.{Call}
 use Rattle.parcels.specs.declared.Call.TheVariants.{Accept, Send, SlipAgain, TakeIn, HandOut, Pay, WhereIs, Here, Sums}
 use Rattle.parcels.specs.declared.Answer.{Answer}
 use Rattle.wire.specs.Calls.{Reading}
-use Rattle.promises.specs.Truth.{book_of}
-use Rattle.promises.specs.World.{Said, IsGiven, IsSlipKnown, IsRowKnown, taken}
-use Rattle.promises.specs.Promise.{truth, RightRow, Happened, nothing_yet, and_then}
+use Rattle.promises.specs.Truth.{book_then, truth}
+use Rattle.promises.specs.World.{Said, IsGiven, IsSlipKnown, IsRowKnown}
+use Rattle.promises.specs.Promise.{RightRow, Happened, nothing_yet, and_then}
 use Rattle.promises.specs.Beside.{keys_told, IsKeyTold, NoKeyTwice}
 use Rattle.laws.proofs.Did.{call_keeps}
 use Rattle.laws.proofs.Keys.{accepted_small, new_parts, new_unused, keys_once}
-use Rattle.truths.proofs.Books.{and_said, book_then, truth_here, truth_elsewhere, each_truth, if_said}
+use Rattle.truths.proofs.Books.{and_said, truth_here, truth_elsewhere, each_truth, if_said}
 use Rattle.truths.proofs.Parcels.{AllKeys, call_brings, GivesKey, none, one, gives_key}
 use Rattle.truths.proofs.Slips.{slip_known, slip_given}
 
@@ -177,7 +177,7 @@ module _ (l : Limits) (xs : List Said) (o : ℕ) (r : Reading) (a : Answer) (lim
       }
 
 kept_empty : (l : Limits) → Kept l []
-unfolding taken book_of has keys_told IsKeyTold IsGiven
+unfolding truth has keys_told IsKeyTold IsGiven
 kept_empty l =
     record {
       home = λ q key there. absurd (cc);
@@ -201,7 +201,7 @@ few_parcels {l} {xs} limit h o = (by_calls l xs o limit (kept limit h)).1.few
 
 -- the book of an office that is not there stays empty
 none_there : {l : Limits} {xs : List Said} → Happened l xs → (o : ℕ) → l.offices ≤ o → truth l xs o ≡ []
-unfolding taken book_of
+unfolding truth
 none_there nothing_yet o far = refl
 none_there {l} (and_then {xs} q r a before in' fits known right) o far = truth_elsewhere l xs o q r a (grind (arith, nat_tests)) ∙ none_there before o far
 

@@ -1,10 +1,8 @@
 -- The steps of parcels in truth, as more calls are taken; and that answers tell of them.
-use Rattle.std.proofs.Common.{◌≡◌, ℕ, ◌<◌, ◌≤◌, Bool, true, false, not, ◌&&◌, eqb, ltb, lt-ltb, is_some, List, [], ◌∷◌, ◌++◌, Some, None, Option, Ok, Err, refl, sym, ap, ◌∙◌, append_assoc, append-nil, arith}
-use Rattle.std.proofs.lemmas.Bool.Decides.{nat_tests}
-use mathlib.Core.Path.{fun_ext}
+use Rattle.std.proofs.Common.{◌≡◌, ℕ, ◌<◌, ◌≤◌, Bool, true, false, ◌&&◌, eqb, ltb, lt-ltb, List, [], ◌∷◌, ◌++◌, Some, None, Option, Ok, Err, refl, sym, ap, ◌∙◌, arith}
 use Rattle.parcels.specs.Numbers.{most_offices, most_parcels, four_bytes}
 use Rattle.parcels.specs.Book.{pick, Book, has_room}
-use Rattle.parcels.specs.Calls.{Limits, good_fields, checked, turned, after, told, not_refused, new_key, unless, refusal}
+use Rattle.parcels.specs.Calls.{Limits, good_fields, checked, turned, told, not_refused, new_key, unless, refusal}
 use Rattle.parcels.specs.declared.Kind.{Kind}
 use Rattle.parcels.specs.declared.Kind.TheVariants.{Accepted, SentOn, ComeIn, HandedOut}
 use Rattle.parcels.specs.declared.Call.{Call}
@@ -15,50 +13,22 @@ use Rattle.parcels.specs.declared.Refusal.{Refusal}
 use Rattle.parcels.specs.declared.Answer.{Answer}
 use Rattle.parcels.specs.declared.Answer.TheVariants.{Refused, Number}
 use Rattle.wire.specs.Calls.{Reading}
-use Rattle.promises.specs.Truth.{Taken, book_of, Move, one_move, move_of, moves_from}
-use Rattle.promises.specs.World.{Said, taken_by, taken}
-use Rattle.promises.specs.Promise.{truth, in_truth, RightRow, nothing_yet, and_then}
+use Rattle.promises.specs.Truth.{move_then, truth, in_truth, Move, one_move}
+use Rattle.promises.specs.World.{Said}
+use Rattle.promises.specs.Promise.{RightRow, nothing_yet, and_then}
 use Rattle.promises.specs.Beside.{is_key, is_slip, is_number, step_in, steps_told, StepsTold}
 use Rattle.laws.proofs.Calls.{passed}
 use Rattle.laws.proofs.Keys.{accepted_small}
 use Rattle.truths.proofs.Books.{and_said}
 
--- the steps by calls, and then by others, from the books that the first ones left
-pub moves_append : (l : Limits) (ts us : List Taken) (books : ℕ → Book) (p : ℕ) → moves_from l (ts ++ us) books p ≡ moves_from l ts books p ++ moves_from l us (λ o. book_of l o ts (books o)) p
-unfolding book_of moves_from
-moves_append l [] us books p = refl
-moves_append l (t ∷ ts) us books p =
-    let here : List Move = move_of l (books t.at) t.at t.call p in
-    let then : ℕ → Book = λ o. pick (eqb o t.at) (after l o (books o) t.call) (books o) in
-    let same : (o : ℕ) → eqb o t.at ≡ eqb t.at o = λ o. grind (arith, nat_tests) in
-    let left : (λ o. book_of l o ts (then o)) ≡ (λ o. book_of l o (t ∷ ts) (books o)) = fun_ext (λ o. ap (λ b. book_of l o ts (pick b (after l o (books o) t.call) (books o))) (same o)) in
-    ap (λ ms. here ++ ms) (moves_append l ts us then p ∙ ap (λ f. moves_from l ts then p ++ moves_from l us f p) left)
-    ∙ sym (append_assoc here (moves_from l ts then p) (moves_from l us (λ o. book_of l o (t ∷ ts) (books o)) p))
-
--- the step of a parcel that an answer to a row of bytes makes, by the book of the office that gave it
-abbrev pub step_then : Limits → ℕ → Book → Reading → Answer → ℕ → List Move
-step_then l o b (Ok c) a p = pick (not_refused a) (move_of l b o c p) []
-step_then l o b (Err e) a p = []
-
--- the steps by an answer, from the books before it
-made : (l : Limits) (o : ℕ) (books : ℕ → Book) (r : Reading) (a : Answer) (p : ℕ) → moves_from l (taken_by o r a) books p ≡ step_then l o (books o) r a p
-unfolding moves_from
-made l o books (Ok c) a p = go (not_refused a)
-  where
-    go : (t : Bool) → moves_from l (pick t (record { at = o; call = c } ∷ []) []) books p ≡ pick t (move_of l (books o) o c p) []
-    go true = append-nil (move_of l (books o) o c p)
-    go false = refl
-made l o books (Err e) a p = refl
-
 -- the steps in truth, with one thing more said
-pub steps_more : (l : Limits) (xs : List Said) (o : ℕ) (r : Reading) (a : Answer) (p : ℕ) → in_truth l (and_said o r a xs) p ≡ in_truth l xs p ++ step_then l o (truth l xs o) r a p
-unfolding taken
-steps_more l xs o r a p =
-    moves_append l (taken xs) (taken_by o r a) (λ q. []) p ∙ ap (λ ms. in_truth l xs p ++ ms) (made l o (λ q. truth l xs q) r a p)
+pub steps_more : (l : Limits) (xs : List Said) (o : ℕ) (r : Reading) (a : Answer) (p : ℕ) → in_truth l (and_said o r a xs) p ≡ in_truth l xs p ++ move_then o (truth l xs o) r a p
+unfolding in_truth
+steps_more l xs o r a p = refl
 
 -- a call that makes a step makes it just where it is taken; a refusal tells of none
 made_step : (k : Kind) (o : ℕ) (tells : Answer → Bool) (mine : Bool) (c : Call) (a : Answer) (t : Option Reason) → ((f : Refusal) → tells (Refused f) ≡ false) → not_refused a ≡ true → (t ≡ None → tells a ≡ mine) →
-    let x : Answer = unless t a (λ r. Refused (refusal c r)) in one_move (tells x) k o ≡ pick (not_refused x) (one_move (not (is_some t) && mine) k o) []
+    let x : Answer = unless t a (λ r. Refused (refusal c r)) in one_move (tells x) k o ≡ pick (not_refused x) (one_move mine k o) []
 made_step k o tells mine c a None none taken told = rw (taken, told refl)
 made_step k o tells mine c a (Some r) none taken told = rw (none (refusal c r))
 
@@ -75,8 +45,8 @@ no_step true ms = refl
 no_step false ms = refl
 
 -- a right answer tells of the step that it makes
-right_step : (l : Limits) (xs : List Said) (o : ℕ) (r : Reading) (a : Answer) (p : ℕ) → l.offices ≤ most_offices → l.parcels ≤ most_parcels → o < l.offices → RightRow l xs o r a → step_in o r a p ≡ step_then l o (truth l xs o) r a p
-unfolding told move_of
+right_step : (l : Limits) (xs : List Said) (o : ℕ) (r : Reading) (a : Answer) (p : ℕ) → l.offices ≤ most_offices → l.parcels ≤ most_parcels → o < l.offices → RightRow l xs o r a → step_in o r a p ≡ move_then o (truth l xs o) r a p
+unfolding told
 right_step l xs o (Ok (Accept dest amount)) a p offices parcels there right =
     let b : Book = truth l xs o in
     let c : Call = Accept dest amount in
@@ -101,7 +71,7 @@ right_step l xs o (Ok Sums) a p offices parcels there right = no_step (not_refus
 right_step l xs o (Err e) a p offices parcels there right = refl
 
 pub told_in_truth : StepsTold
-unfolding steps_told taken moves_from
+unfolding steps_told in_truth
 told_in_truth can l [] p g nothing_yet = refl
 told_in_truth can l (x ∷ xs) p g (and_then o r a before in' fits known right) =
     ap (λ ms. ms ++ step_in o r a p) (told_in_truth can l xs p g before)

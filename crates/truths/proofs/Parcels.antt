@@ -12,12 +12,12 @@ use Rattle.parcels.specs.declared.Reason.TheVariants.{OverLimit}
 use Rattle.parcels.specs.declared.Answer.{Answer}
 use Rattle.wire.specs.Calls.{Reading}
 use Rattle.promises.specs.World.{Said}
-use Rattle.promises.specs.Promise.{truth, RightRow}
+use Rattle.promises.specs.Truth.{book_then, truth}
+use Rattle.promises.specs.Promise.{RightRow}
 use Rattle.promises.specs.Beside.{row_key_told}
 use Rattle.laws.proofs.Books.{own_key, has_put, has_new}
 use Rattle.laws.proofs.Calls.{passed, if_taken}
 use Rattle.laws.proofs.Did.{Did, nothing, accepts, comes, leaves, pays, did}
-use Rattle.truths.proofs.Books.{book_then}
 
 -- something is so of each key in a book
 abbrev pub AllKeys : (ℕ → Type 0) → Book → Type 0

@@ -7,7 +7,8 @@ use Rattle.parcels.specs.Calls.{Limits}
 use Rattle.parcels.specs.Laws.{AmountsFit}
 use Rattle.parcels.specs.Shelf.{FirstTold, asked_on}
 use Rattle.promises.specs.World.{Said}
-use Rattle.promises.specs.Promise.{truth, Happened}
+use Rattle.promises.specs.Truth.{truth}
+use Rattle.promises.specs.Promise.{Happened}
 use Rattle.promises.specs.Beside.{ShelvesAndSums}
 use Rattle.laws.proofs.Sums.{sums_stay_fit}
 use Rattle.laws.proofs.Shelf.{shelves_listed}

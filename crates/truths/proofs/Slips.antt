@@ -9,7 +9,8 @@ use Rattle.parcels.specs.declared.Reason.TheVariants.{NotHere}
 use Rattle.parcels.specs.declared.Answer.TheVariants.{Given}
 use Rattle.wire.specs.Calls.{Reading}
 use Rattle.promises.specs.World.{Said}
-use Rattle.promises.specs.Promise.{truth, RightWhere, RightPay, RightRow}
+use Rattle.promises.specs.Truth.{truth}
+use Rattle.promises.specs.Promise.{RightWhere, RightPay, RightRow}
 use Rattle.laws.proofs.Books.{own_key}
 use Rattle.laws.proofs.Calls.{both_passed, if_taken}
 

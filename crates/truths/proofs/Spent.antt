@@ -9,12 +9,13 @@ use Rattle.parcels.specs.declared.Call.TheVariants.{TakeIn}
 use Rattle.parcels.specs.declared.Reason.TheVariants.{OutOfRange, WrongSlip, OverLimit}
 use Rattle.parcels.specs.declared.Answer.{Answer}
 use Rattle.wire.specs.Calls.{Reading}
+use Rattle.promises.specs.Truth.{book_then, truth}
 use Rattle.promises.specs.World.{Said}
-use Rattle.promises.specs.Promise.{truth, RightRow, Happened, nothing_yet, and_then}
+use Rattle.promises.specs.Promise.{RightRow, Happened, nothing_yet, and_then}
 use Rattle.promises.specs.Beside.{IsTakenIn, SlipSpent}
 use Rattle.laws.proofs.Calls.{passed, not_turned, if_taken, used_up, refused_again}
 use Rattle.laws.proofs.Steps.{never_works}
-use Rattle.truths.proofs.Books.{book_then, each_truth, if_said}
+use Rattle.truths.proofs.Books.{each_truth, if_said}
 use Rattle.truths.proofs.Keys.{new_key_free}
 
 -- a slip that a parcel was taken in with was for this office, and is used up here

@@ -8,7 +8,8 @@ use Rattle.parcels.specs.declared.Kind.{Kind}
 use Rattle.parcels.specs.declared.Kind.TheVariants.{Accepted, SentOn, ComeIn, HandedOut}
 use Rattle.parcels.specs.declared.Slip.{Slip}
 use Rattle.promises.specs.World.{Said, IsGiven}
-use Rattle.promises.specs.Promise.{truth, RightRow, Happened, nothing_yet, and_then}
+use Rattle.promises.specs.Truth.{truth}
+use Rattle.promises.specs.Promise.{RightRow, Happened, nothing_yet, and_then}
 use Rattle.promises.specs.Beside.{SlipsFit}
 use Rattle.laws.proofs.Steps.{here_low, stay_fit}
 use Rattle.truths.proofs.Books.{each_book}
