@@ -1,27 +1,23 @@
--- What is promised beside what Promise.antt has: that what offices live through happened; that answers tell of the steps in truth;
--- which keys are given out, how far steps go, which slips are spent, and what can be told of sums and of what is at an
--- office, by what was taken everywhere.
-use Rattle.std.specs.Prelude.{◌≡◌, ℕ, ◌+◌, ◌<◌, ◌≤◌, Bool, true, false, ◌&&◌, ◌⊎◌, List, [], ◌∷◌, ◌++◌, length, Some, Ok, Err, ◌==◌, nat_lt, slice_index}
+-- What is promised beside what Promise.antt has, by what was taken everywhere: that answers tell of the steps in truth; which keys
+-- are given out; how far steps go; what can be told of sums and of what is at an office; that steps stay, and none comes behind
+-- handing out; which office has the last one; and how a parcel can go on from there.
+use Rattle.std.specs.Prelude.{◌≡◌, ℕ, ◌+◌, ◌<◌, ◌≤◌, Bool, true, false, ◌&&◌, ◌||◌, ◌⊎◌, List, [], ◌∷◌, ◌++◌, length, Some, None, Ok, Err, ◌==◌, nat_lt, slice_index}
 use Rattle.parcels.specs.Numbers.{most_parcels, most_sum, four_bytes}
-use Rattle.parcels.specs.Book.{origin, Book, has, each_once, first_here, collected, paid_out}
-use Rattle.parcels.specs.Calls.{Stage, Limits, turned, not_refused}
+use Rattle.parcels.specs.Book.{origin, Book, has, own, each_once, first_here, collected, paid_out, leaves_it_here, was_sent_on, has_room, is_here}
+use Rattle.parcels.specs.Calls.{Stage, Limits, turned, slip_from}
 use Rattle.parcels.specs.Laws.{StepsFit, AmountsFit, key_told, brings_known_key}
 use Rattle.parcels.specs.Shelf.{FirstTold, asked_on, ShelfListed}
 use Rattle.parcels.specs.declared.Kind.TheVariants.{Accepted, SentOn, ComeIn, HandedOut}
 use Rattle.parcels.specs.declared.Slip.{Slip}
+use Rattle.parcels.specs.declared.Step.{Step}
 use Rattle.parcels.specs.declared.Call.{Call}
 use Rattle.parcels.specs.declared.Call.TheVariants.{Accept, Send, SlipAgain, TakeIn, HandOut, Pay, WhereIs, Here, Sums}
-use Rattle.parcels.specs.declared.Reason.TheVariants.{WrongSlip}
 use Rattle.parcels.specs.declared.Answer.{Answer}
 use Rattle.parcels.specs.declared.Answer.TheVariants.{Refused, Number, Given, At, NothingHeard, Two}
-use Rattle.promises.specs.Truth.{truth, in_truth, Move, one_move}
+use Rattle.promises.specs.Truth.{truth, in_truth, Move, one_move, last_of}
 use Rattle.wire.specs.Calls.{Reading}
-use Rattle.promises.specs.World.{Office, Said, World, Lived, IsGiven, IsSlipKnown}
-use Rattle.promises.specs.Promise.{GoodLimits, Happened}
-
--- what offices live through happened: so what is true of all that happened is true of theirs
-abbrev pub LivedHappened : Stage → Office → Type 0
-LivedHappened can f = (l : Limits) (w : World) → GoodLimits can l → Lived f l w → Happened l w.said
+use Rattle.promises.specs.World.{Said, IsGiven, IsSlipKnown}
+use Rattle.promises.specs.Promise.{GoodLimits, some_handed_out, Happened}
 
 -- an answer that is a number, as where a parcel comes in or is handed out
 abbrev pub is_number : Answer → Bool
@@ -116,18 +112,6 @@ SlipsFit =
     (can : Stage) (l : Limits) (xs : List Said) → GoodLimits can l → Happened l xs →
     ((o : ℕ) → StepsFit (truth l xs o)) × ((s : Slip) → IsGiven s xs → s.step ≤ four_bytes + 1)
 
--- a slip with which a parcel was taken in, at whatever office
-unfoldable pub IsTakenIn : Slip → List Said → Type 0
-IsTakenIn s [] = ⊥
-IsTakenIn s (x ∷ xs) = ((x.reading ≡ Ok (TakeIn s)) × (not_refused x.answer ≡ true)) ⊎ IsTakenIn s xs
-
--- it is spent: from then on it is turned away at all offices, as a slip that doesn't work, whatever else happens, and not
--- only by the book that taking the parcel in leaves
-abbrev pub SlipSpent : Type 0
-SlipSpent =
-    (can : Stage) (l : Limits) (xs : List Said) (o : ℕ) (s : Slip) → GoodLimits can l → Happened l xs → IsTakenIn s xs →
-    turned l o (truth l xs o) (TakeIn s) ≡ Some WrongSlip
-
 -- A book has one entry for each parcel, at most 65,536 of them, and no amount above the largest. So eight bytes of an answer
 -- hold each sum, and what is told of the parcels at the office is right: which is the first one from a key on, and all of them,
 -- where one asks on. And one can: what was answered fits a call's field, however often one asked.
@@ -143,3 +127,45 @@ pub record ShelfAndSums (b : Book) : Type 0 where
 -- that is so of each office's book, whatever happened
 abbrev pub ShelvesAndSums : Type 0
 ShelvesAndSums = (can : Stage) (l : Limits) (xs : List Said) (o : ℕ) → GoodLimits can l → Happened l xs → ShelfAndSums (truth l xs o)
+
+-- steps that a parcel took stay as they are, and others come behind them only: so they never grow shorter
+abbrev pub StepsStay : Type 0
+StepsStay = (l : Limits) (xs ys : List Said) (p : ℕ) → (more : List Move) × (in_truth l (ys ++ xs) p ≡ in_truth l xs p ++ more)
+
+-- a parcel that was handed out makes no step more
+abbrev pub HandedOutStays : Type 0
+HandedOutStays =
+    (can : Stage) (l : Limits) (xs ys : List Said) (p : ℕ) → GoodLimits can l → Happened l (ys ++ xs) → some_handed_out (in_truth l xs p) ≡ true → in_truth l (ys ++ xs) p ≡ in_truth l xs p
+
+-- The office that made this step, which is a parcel's last one, is there and has it in its book. In the book of any other office
+-- the parcel has an earlier step, or none. And the parcel is at an office just where that step was made there and left it there.
+pub record LastHeld (l : Limits) (xs : List Said) (p : ℕ) (last : Step) : Type 0 where
+  pub there : last.office < l.offices
+  pub held : has (truth l xs last.office) p ≡ true
+  pub step : (own (truth l xs last.office) p).step ≡ last.number
+  pub kind : (own (truth l xs last.office) p).kind ≡ last.kind
+  pub others : (o : ℕ) → has (truth l xs o) p ≡ true → (o == last.office) ≡ false → (own (truth l xs o) p).step < last.number
+  pub here : (o : ℕ) → is_here (truth l xs o) p ≡ (o == last.office && leaves_it_here last.kind)
+
+-- so it is of each parcel that took a step: of its offices exactly one has the last one
+abbrev pub HasLast : Limits → List Said → ℕ → Type 0
+HasLast l xs p = (last : Step) → last_of (in_truth l xs p) ≡ Some last → LastHeld l xs p last
+
+abbrev pub OneHasLast : Type 0
+OneHasLast = (can : Stage) (l : Limits) (xs : List Said) (p : ℕ) → GoodLimits can l → Happened l xs → HasLast l xs p
+
+-- How a parcel that wasn't handed out can go on from its last step, by the calls that a stage can do. Where it is, it is sent on to
+-- any other office, or handed out if it is for this one; where it is on the way, its slip is given once more, and with that
+-- slip it is taken in, if that office knows it or has room for one more. And the office that it is for is there. (Where there is
+-- no room, it stays on the way, since no book loses an entry. A slip is entered only where four bytes hold its step.)
+pub record GoesFurther (l : Limits) (xs : List Said) (p : ℕ) (last : Step) : Type 0 where
+  pub goal : (own (truth l xs last.office) p).dest < l.offices
+  pub sent : leaves_it_here last.kind ≡ true → l.can 1 ≡ true → (to : ℕ) → to < l.offices → (to == last.office) ≡ false → turned l last.office (truth l xs last.office) (Send p to) ≡ None
+  pub handed_out : leaves_it_here last.kind ≡ true → l.can 4 ≡ true → (own (truth l xs last.office) p).dest ≡ last.office → turned l last.office (truth l xs last.office) (HandOut p) ≡ None
+  pub slip : was_sent_on last.kind ≡ true → l.can 2 ≡ true → turned l last.office (truth l xs last.office) (SlipAgain p) ≡ None
+  pub taken_in : was_sent_on last.kind ≡ true → l.can 3 ≡ true → let s : Slip = slip_from last.office (own (truth l xs last.office) p) in
+      (has (truth l xs s.to) p || has_room l.parcels (truth l xs s.to)) ≡ true → turned l s.to (truth l xs s.to) (TakeIn s) ≡ None
+
+-- so it is of each parcel: none of these calls is turned away
+abbrev pub CanGoFurther : Type 0
+CanGoFurther = (can : Stage) (l : Limits) (xs : List Said) (p : ℕ) (last : Step) → GoodLimits can l → Happened l xs → last_of (in_truth l xs p) ≡ Some last → GoesFurther l xs p last

@@ -1,4 +1,6 @@
 pub mod World
 pub mod Truth
 pub mod Promise
+pub mod Way
 pub mod Beside
+pub mod Told

@@ -3,18 +3,22 @@
 --
 -- How to read it. `(x : A) → B` is: for every A, which we call x, B. `A → B` is: if A, then B. `(x : A) × B` is: some A, which we call
 -- x, and B. `A × B` is: A, and B. `A ⊎ B` is: A, or B, or both. `⊥` never holds. `a ≡ b` is: they are the same. `f a b` is f of a and b,
--- and `λ x. b` the function from x to b. `let x : A = a in b` is b, where x stands for a. `a.f` is the part f of a, and
--- `record { f = a }` is made of such parts. `abbrev` and `unfoldable` say that a name stands for what follows, case by case
--- where there are some; `data` lists the only ways in which something comes about; `Type 0` says that what is defined is a
--- statement, or a kind of thing. `pick t a b` is a where t is true, and else b. `==`, `nat_lt` and `nat_le` test whether
+-- and `λ x. b` the function from x to b. `let x : A = a in b` is b, where x stands for a. `(a, b)` is both together. `a.f` is the
+-- part f of a, and `record { f = a }` is made of such parts; a statement that is a `record` says each of its parts. `abbrev` and
+-- `unfoldable` say that a name stands for what follows, case by case where there are some; `data` lists the only ways in
+-- which something comes about; `Type 0` says that what is defined is a statement, or a kind of thing, and `ℕ` are the numbers from 0
+-- on, of which `m - n` is 0 where n is larger. What stands in braces, as `{x : A}`, is found by itself. `pick t a b` is a where t is true, and else b. `==`, `nat_lt` and `nat_le` test whether
 -- numbers are the same, less, and at most; `&&`, `||` and `not` join tests. A list is `[]`, with nothing in it, or `x ∷ xs`: x, and
--- then the list xs; of what was said the last stands first. `length` is how many it has, and `slice_index_or xs i d` its item
+-- then the list xs; `xs ++ ys` is xs, and then ys; of what was said the last stands first. `length` is how many it has, and `slice_index_or xs i d` its item
 -- at i, counted from 0, or d where there is none. `suc n` is n + 1. `Some a` is an a that is there, `None` that there is none; `Ok`
 -- and `Err`, that something went well, or not. Lines that begin with `use` say where names come from: what a call
 -- comes to (`turned`, `answered`) is in `crates/parcels/specs/Calls.antt`, what a book has in `Book.antt` beside it.
 --
--- `can` is the set of calls that a stage can do, `l` the limits, `w` the world, `o` an office's number, `p` a parcel's key, and `f`
--- what an office's program may do.
+-- That an office answers at all is not said here: a relation that allows nothing would keep every promise. It is proved of each
+-- function that it returns, and then keeps its contract.
+--
+-- `can` is the set of calls that a stage can do, `l` the limits, `w` the world, `o` an office's number, `p` a parcel's key, and `f`,
+-- where it stands for an office, what that one's program may do.
 use Rattle.std.specs.Prelude.{◌≡◌, ℕ, zero, suc, ◌+◌, ◌-◌, ◌*◌, ◌<◌, ◌≤◌, Bool, true, false, ◌&&◌, ◌||◌, ◌⊎◌, List, [], ◌∷◌, length, Some, None, Ok, Err, Option, ◌==◌, nat_le, nat_lt, slice_index_or}
 use Rattle.parcels.specs.Numbers.{fewest_offices, most_offices, most_parcels, four_bytes, letter_bytes, all_below, words_a_parcel, words_more}
 use Rattle.parcels.specs.Book.{pick, origin, Book, has, own, is_here, was_handed_out, collected, paid_out}
@@ -22,9 +26,10 @@ use Rattle.parcels.specs.Calls.{Stage, Limits, turned, place, answered, unreadab
 use Rattle.parcels.specs.declared.Kind.{Kind}
 use Rattle.parcels.specs.declared.Kind.TheVariants.{Accepted, SentOn, ComeIn, HandedOut}
 use Rattle.parcels.specs.declared.Step.{Step}
+use Rattle.parcels.specs.declared.Slip.{Slip}
 use Rattle.parcels.specs.declared.Call.{Call}
 use Rattle.parcels.specs.declared.Call.TheVariants.{Accept, Send, SlipAgain, TakeIn, HandOut, Pay, WhereIs, Here, Sums}
-use Rattle.parcels.specs.declared.Reason.TheVariants.{NothingToPay}
+use Rattle.parcels.specs.declared.Reason.TheVariants.{NothingToPay, WrongSlip}
 use Rattle.parcels.specs.declared.Refusal.{Refusal}
 use Rattle.parcels.specs.declared.Answer.{Answer}
 use Rattle.parcels.specs.declared.Answer.TheVariants.{Refused, Number, Given, At, NothingHeard, Two}
@@ -190,52 +195,60 @@ pub data Happened (l : Limits) : List Said → Type 0 where
   nothing_yet : Happened l []
   and_then : {xs : List Said} (o : ℕ) (r : Reading) (a : Answer) → Happened l xs → o < l.offices → row_readable r ≡ true → IsRowKnown r xs → RightRow l xs o r a → Happened l (record { at = o; reading = r; answer = a } ∷ xs)
 
--- EIGHT STATEMENTS ON PARCELS. The first four are stated, and not proved yet: no function's contract names them. They are
--- about what was taken everywhere, so they speak of no office's program.
+-- what offices live through happened: so what is true of all that happened is true of theirs
+abbrev pub LivedHappened : Stage → Office → Type 0
+LivedHappened can f = (l : Limits) (w : World) → GoodLimits can l → Lived f l w → Happened l w.said
+
+-- EIGHT STATEMENTS ON PARCELS. All but 5 and 6 are about what was taken everywhere, in any stage, so they speak of no office's
+-- program. Way.antt has what carries the first four.
 
 -- where a parcel is in its way: not accepted yet, at an office, on the way, or handed out
-pub data Way : Type 0 where
-  unknown : Way
-  at_office : Way
-  on_the_way : Way
-  gone : Way
+pub data Whereabouts : Type 0 where
+  unknown : Whereabouts
+  at_office : ℕ → Whereabouts
+  on_the_way : Whereabouts
+  gone : Whereabouts
 
--- the way goes on by a step of this kind
-abbrev pub goes_on : Way → Kind → Option Way
-goes_on unknown Accepted = Some at_office
-goes_on unknown SentOn = None
-goes_on unknown ComeIn = None
-goes_on unknown HandedOut = None
-goes_on at_office Accepted = None
-goes_on at_office SentOn = Some on_the_way
-goes_on at_office ComeIn = None
-goes_on at_office HandedOut = Some gone
-goes_on on_the_way Accepted = None
-goes_on on_the_way SentOn = None
-goes_on on_the_way ComeIn = Some at_office
-goes_on on_the_way HandedOut = None
-goes_on gone Accepted = None
-goes_on gone SentOn = None
-goes_on gone ComeIn = None
-goes_on gone HandedOut = None
+-- the way of a parcel with this origin goes on by a step of this kind, which this office makes: it is accepted at its
+-- origin, sent on and handed out where it is, and taken in where it was not
+abbrev pub goes_on : ℕ → Whereabouts → Kind → ℕ → Option Whereabouts
+goes_on home unknown Accepted o = pick (o == home) (Some (at_office o)) None
+goes_on home unknown SentOn o = None
+goes_on home unknown ComeIn o = None
+goes_on home unknown HandedOut o = None
+goes_on home (at_office q) Accepted o = None
+goes_on home (at_office q) SentOn o = pick (o == q) (Some on_the_way) None
+goes_on home (at_office q) ComeIn o = None
+goes_on home (at_office q) HandedOut o = pick (o == q) (Some gone) None
+goes_on home on_the_way Accepted o = None
+goes_on home on_the_way SentOn o = None
+goes_on home on_the_way ComeIn o = Some (at_office o)
+goes_on home on_the_way HandedOut o = None
+goes_on home gone Accepted o = None
+goes_on home gone SentOn o = None
+goes_on home gone ComeIn o = None
+goes_on home gone HandedOut o = None
 
 -- each step goes on from the one before
-unfoldable pub in_turn : Option Way → List Move → Bool
-in_turn None ss = false
-in_turn (Some w) [] = true
-in_turn (Some w) (s ∷ ss) = in_turn (goes_on w s.kind) ss
+unfoldable pub in_turn : ℕ → Option Whereabouts → List Move → Bool
+in_turn home None ms = false
+in_turn home (Some w) [] = true
+in_turn home (Some w) (m ∷ ms) = in_turn home (goes_on home w m.kind m.office) ms
 
--- 1. a parcel is accepted first, at its origin; then sent on and taken in by turns; and handed out at most once, at the end
+-- 1. a parcel is accepted first, at its origin; then sent on, from where it is, and taken in by turns; and handed out at
+-- most once, where it is, at the end
+abbrev pub InTurn : Limits → List Said → ℕ → Type 0
+InTurn l xs p = in_turn (origin p) (Some unknown) (in_truth l xs p) ≡ true
+
 abbrev pub StepsInTurn : Type 0
-StepsInTurn =
-    (can : Stage) (l : Limits) (xs : List Said) (p : ℕ) → GoodLimits can l → Happened l xs →
-    (in_turn (Some unknown) (in_truth l xs p) ≡ true) × (0 < length (in_truth l xs p) → (slice_index_or (in_truth l xs p) 0 no_move).office ≡ origin p)
+StepsInTurn = (can : Stage) (l : Limits) (xs : List Said) (p : ℕ) → GoodLimits can l → Happened l xs → InTurn l xs p
 
 -- 2. it is at one office at most
+abbrev pub AtOne : Limits → List Said → ℕ → Type 0
+AtOne l xs p = (o q : ℕ) → is_here (truth l xs o) p ≡ true → is_here (truth l xs q) p ≡ true → o ≡ q
+
 abbrev pub NotAtTwo : Type 0
-NotAtTwo =
-    (can : Stage) (l : Limits) (xs : List Said) (p o q : ℕ) → GoodLimits can l → Happened l xs →
-    is_here (truth l xs o) p ≡ true → is_here (truth l xs q) p ≡ true → o ≡ q
+NotAtTwo = (can : Stage) (l : Limits) (xs : List Said) (p : ℕ) → GoodLimits can l → Happened l xs → AtOne l xs p
 
 -- a sum over all offices
 unfoldable pub over_offices : ℕ → (ℕ → ℕ) → ℕ
@@ -243,16 +256,27 @@ over_offices zero f = 0
 over_offices (suc n) f = f n + over_offices n f
 
 -- 3. no more was paid out than was collected, all offices together
-abbrev pub NoMorePaid : Type 0
-NoMorePaid =
-    (can : Stage) (l : Limits) (xs : List Said) → GoodLimits can l → Happened l xs →
-    over_offices l.offices (λ o. paid_out (truth l xs o)) ≤ over_offices l.offices (λ o. collected (truth l xs o))
+abbrev pub Covered : Limits → List Said → Type 0
+Covered l xs = over_offices l.offices (λ o. paid_out (truth l xs o)) ≤ over_offices l.offices (λ o. collected (truth l xs o))
 
--- 4. it was handed out where it was for, with its amount
-abbrev pub WhereItWasFor : Type 0
-WhereItWasFor =
-    (can : Stage) (l : Limits) (xs : List Said) (p o : ℕ) → GoodLimits can l → Happened l xs → has (truth l xs o) p ≡ true → (own (truth l xs o) p).kind ≡ HandedOut →
+abbrev pub NoMorePaid : Type 0
+NoMorePaid = (can : Stage) (l : Limits) (xs : List Said) → GoodLimits can l → Happened l xs → Covered l xs
+
+-- 4. it was handed out where it was for, with its amount: both as the book of its origin has them
+abbrev pub WasFor : Limits → List Said → ℕ → Type 0
+WasFor l xs p =
+    (o : ℕ) → has (truth l xs o) p ≡ true → (own (truth l xs o) p).kind ≡ HandedOut →
     ((own (truth l xs (origin p)) p).dest ≡ o) × ((own (truth l xs (origin p)) p).amount ≡ (own (truth l xs o) p).amount)
+
+abbrev pub WhereItWasFor : Type 0
+WhereItWasFor = (can : Stage) (l : Limits) (xs : List Said) (p : ℕ) → GoodLimits can l → Happened l xs → WasFor l xs p
+
+-- these four, of all parcels of a post
+pub record ParcelsSafe (l : Limits) (xs : List Said) : Type 0 where
+  pub in_turn : (p : ℕ) → InTurn l xs p
+  pub at_one : (p : ℕ) → AtOne l xs p
+  pub covered : Covered l xs
+  pub was_for : (p : ℕ) → WasFor l xs p
 
 -- 5. what an office tells of a parcel never goes back
 abbrev pub NeverBack : Stage → Office → Type 0
@@ -260,12 +284,58 @@ NeverBack can f =
     (l : Limits) (w : World) (o p : ℕ) (s : Step) (m : Memory) (ls : List Letter) → GoodLimits can l → Lived f l w → o < l.offices →
     f.Called l o (w.memory o) (Ok (WhereIs p)) m (At s) ls → told_so_far w.said o p ≤ suc s.number
 
--- 6. a letter that comes again, or late, changes no answer that an office can give by itself
+-- 6. a letter that was sent, whenever and however often it comes, changes no answer that an office can give by itself
 abbrev pub OldLetters : Stage → Office → Type 0
 OldLetters can f =
     (l : Limits) (w : World) (x : Letter) (o : ℕ) (c : Call) (m n n' : Memory) (ls ms ms' : List Letter) (a a' : Answer) → GoodLimits can l → Lived f l w → In x w.sent →
     x.to < l.offices → o < l.offices → needs_news c ≡ false → row_readable (Ok c) ≡ true → IsRowKnown (Ok c) w.said → f.Heard l x.to (w.memory x.to) x.text m ls →
     f.Called l o (w.memory o) (Ok c) n a ms → f.Called l o ((after_news w x.to m ls).memory o) (Ok c) n' a' ms' → a' ≡ a
 
--- 7 and 8, that a slip works once and that a call that is turned away changes no book, speak of one book and
--- one call: they stand with the laws of books, SlipOnce and TurnedAway. SlipSpent, in Beside.antt, is more than 7: of all calls.
+-- a slip with which a parcel was taken in, at whatever office
+unfoldable pub IsTakenIn : Slip → List Said → Type 0
+IsTakenIn s [] = ⊥
+IsTakenIn s (x ∷ xs) = ((x.reading ≡ Ok (TakeIn s)) × (not_refused x.answer ≡ true)) ⊎ IsTakenIn s xs
+
+-- 7. a slip works once: from then on it is turned away at all offices, as a slip that doesn't work, whatever else happens
+abbrev pub SlipsSpent : Limits → List Said → Type 0
+SlipsSpent l xs = (o : ℕ) (s : Slip) → IsTakenIn s xs → turned l o (truth l xs o) (TakeIn s) ≡ Some WrongSlip
+
+abbrev pub SlipOnlyOnce : Type 0
+SlipOnlyOnce = (can : Stage) (l : Limits) (xs : List Said) → GoodLimits can l → Happened l xs → SlipsSpent l xs
+
+-- 8. a call that is turned away changes no book, and makes no step: so is truth made. That the office which turned it away
+-- has nothing else in memory either is RefusalKeeps
+abbrev pub RefusedMoves : Type 0
+RefusedMoves =
+    (l : Limits) (xs : List Said) (o : ℕ) (r : Reading) (a : Answer) → not_refused a ≡ false → let ys : List Said = record { at = o; reading = r; answer = a } ∷ xs in
+    ((q : ℕ) → truth l ys q ≡ truth l xs q) × ((p : ℕ) → in_truth l ys p ≡ in_truth l xs p)
+
+-- all eight, of whatever offices that run this live through: the first four; and 5 to 8
+pub record EightStatements (can : Stage) (f : Office) : Type 0 where
+  pub parcels : (l : Limits) (w : World) → GoodLimits can l → Lived f l w → ParcelsSafe l w.said
+  pub never_back : NeverBack can f
+  pub old_letters : OldLetters can f
+  pub slips : (l : Limits) (w : World) → GoodLimits can l → Lived f l w → SlipsSpent l w.said
+  pub refused : RefusedMoves
+
+-- an office's program, as functions of the limits, its number, its memory, and what comes to it
+pub record Program : Type 0 where
+  pub opened : Limits → ℕ → Memory
+  pub called : Limits → ℕ → Memory → Reading → Memory × Answer × List Letter
+  pub heard : Limits → ℕ → Memory → List ℕ → Memory × List Letter
+  pub ticked : Limits → ℕ → Memory → Memory × List Letter
+
+-- the office that runs it
+abbrev pub runs : Program → Office
+runs f =
+    record {
+      Opened = λ l o m. m ≡ f.opened l o;
+      Called = λ l o m r n a ls. (n, a, ls) ≡ f.called l o m r;
+      Heard = λ l o m x n ls. (n, ls) ≡ f.heard l o m x;
+      Ticked = λ l o m n ls. (n, ls) ≡ f.ticked l o m;
+    }
+
+-- They are so of any program whose every answer is right, in any stage. (They are proved of whatever an office may do, by a
+-- relation as Office has it; a contract can't range over these, and names the programs.)
+abbrev pub RightPrograms : Type 0
+RightPrograms = (can : Stage) (f : Program) → Right can (runs f) → EightStatements can (runs f)

@@ -1,9 +1,10 @@
 -- What is true of books and parcels, by the calls that were taken at all offices.
-use Rattle.std.specs.Prelude.{ℕ, Bool, List, [], ◌∷◌, ◌++◌, Ok, Err, ◌==◌}
+use Rattle.std.specs.Prelude.{ℕ, ◌-◌, Bool, List, [], ◌∷◌, ◌++◌, length, Ok, Err, Option, option_map, slice_get, ◌==◌}
 use Rattle.parcels.specs.Book.{pick, Book}
 use Rattle.parcels.specs.Calls.{Limits, after, new_key, not_refused}
 use Rattle.parcels.specs.declared.Kind.{Kind}
 use Rattle.parcels.specs.declared.Kind.TheVariants.{Accepted, SentOn, ComeIn, HandedOut}
+use Rattle.parcels.specs.declared.Step.{Step}
 use Rattle.parcels.specs.declared.Call.{Call}
 use Rattle.parcels.specs.declared.Call.TheVariants.{Accept, Send, SlipAgain, TakeIn, HandOut, Pay, WhereIs, Here, Sums}
 use Rattle.parcels.specs.declared.Answer.{Answer}
@@ -51,3 +52,7 @@ move_then o b (Err e) a p = []
 unfoldable pub in_truth : Limits → List Said → ℕ → List Move
 in_truth l [] p = []
 in_truth l (x ∷ xs) p = in_truth l xs p ++ move_then x.at (truth l xs x.at) x.reading x.answer p
+
+-- the last of a parcel's steps, if it took one; its number is its place among them
+abbrev pub last_of : List Move → Option Step
+last_of ms = option_map (λ m. record { number = length ms - 1; kind = m.kind; office = m.office }) (slice_get ms (length ms - 1))

@@ -65,7 +65,7 @@ unfoldable pub IsGiven : Slip → List Said → Type 0
 IsGiven s [] = ⊥
 IsGiven s (x ∷ xs) = (x.answer ≡ Given s) ⊎ IsGiven s xs
 
--- a clerk takes a parcel in only with a slip that was given out
+-- a clerk takes a parcel in only with a slip that was given out: after one that was not, nothing is promised
 abbrev pub IsSlipKnown : Call → List Said → Type 0
 IsSlipKnown (Accept dest amount) xs = Unit {0}
 IsSlipKnown (Send key to) xs = Unit {0}

@@ -23,7 +23,7 @@ one_changed P ms q m o here elsewhere = go (eqb o q) refl
     go false e = elsewhere (apart o q e)
 
 -- where it was put back as it was, all are as they were
-pub none_changed : (ms : ℕ → Memory) (q : ℕ) (m : Memory) (o : ℕ) → m ≡ ms q → with_memory ms q m o ≡ ms o
+none_changed : (ms : ℕ → Memory) (q : ℕ) (m : Memory) (o : ℕ) → m ≡ ms q → with_memory ms q m o ≡ ms o
 none_changed ms q m o same = one_changed (λ n. n ≡ ms o) ms q m o (λ is. same ∙ ap ms (sym is)) (λ _. refl)
 
 -- what is so of an office's fresh memory, where nothing was said, and stays so by each call at it and at others, is so of

@@ -2,23 +2,22 @@
 use Rattle.std.proofs.Common.{◌≡◌, ℕ, suc, ◌<◌, ◌≤◌, true, false, List, [], ◌∷◌, length, Some, Ok, Err, slice_index, refl, sym, ap, ◌∙◌, subst, inr, arith, zero-le, lt-ltb}
 use Rattle.parcels.specs.Numbers.{all_below}
 use Rattle.parcels.specs.Book.{Book, origin}
-use Rattle.parcels.specs.Calls.{Limits, thin, turned, refusal, answered}
+use Rattle.parcels.specs.Calls.{Limits, thin, turned, answered}
 use Rattle.parcels.specs.declared.Reason.TheVariants.{OutOfRange}
 use Rattle.parcels.specs.declared.Call.{Call}
 use Rattle.parcels.specs.declared.Call.TheVariants.{Accept, Send, SlipAgain, TakeIn, HandOut, Pay, WhereIs, Here, Sums}
 use Rattle.parcels.specs.declared.Answer.{Answer}
-use Rattle.parcels.specs.declared.Answer.TheVariants.{Refused, At}
 use Rattle.wire.specs.Calls.{Reading}
 use Rattle.rows.specs.Layout.{book_at}
 use Rattle.letters.specs.Envelope.{Letter}
 use Rattle.session.specs.Answering.{reply, Done}
+use Rattle.promises.specs.World.{Memory, Said, World, Lived}
 use Rattle.promises.specs.Truth.{truth}
-use Rattle.promises.specs.World.{Memory, Said, World, Lived, opened, called, heard, ticked}
-use Rattle.promises.specs.Promise.{GoodLimits, RightWhere, RightPay, RightAnswer, RightRow, Right, RefusalKeeps, NewsComes, StaysSmall, NeverBack, OldLetters, short, nothing_yet, and_then}
-use Rattle.promises.specs.Beside.{LivedHappened}
+use Rattle.promises.specs.Promise.{GoodLimits, RightWhere, RightPay, RightAnswer, RightRow, Right, RefusalKeeps, NewsComes, StaysSmall, LivedHappened, short}
+use Rattle.ways.proofs.Programs.{lived_happened as happened_if_right}
 use Rattle.theorems.specs.Ours.{ours}
 use Rattle.theorems.proofs.Stage.{turned_away, refused}
-use Rattle.theorems.proofs.Happened.{none_changed, memory_kept, no_letter}
+use Rattle.theorems.proofs.Happened.{memory_kept, no_letter}
 use Rattle.theorems.proofs.Truth.{book_true_now}
 
 -- what is answered by a book that is the true one is right
@@ -57,16 +56,6 @@ news_comes l w v p m a ls g x rounds some =
     let paid : turned l (origin p) (truth l w.said (origin p)) (Pay p) ≡ Some OutOfRange = turned_away l (origin p) (truth l w.said (origin p)) (Pay p) (g.3 5) in
     (λ can _. absurd (cc), λ free _ _. absurd (cc))
 
-pub never_back : NeverBack thin ours
-never_back l w o p s m ls g v there (done, _, _) =
-    let turned : At s ≡ Refused (refusal (WhereIs p) OutOfRange) = refused l o (book_at (w.memory o)) (WhereIs p) (At s) (g.3 6) done.answer in
-    absurd (cc)
-
--- a letter changes no memory
-pub old_letters : OldLetters thin ours
-old_letters l w x o c m n n' ls ms ms' a a' g v sent to there own fits known (same, _) (d, _, _) (e, _, _) =
-    e.answer ∙ ap (λ (k : Memory). answered l o (book_at k) c) (none_changed w.memory x.to m o same) ∙ sym d.answer
-
 -- words that fit one by one fit
 words_fit : (k : ℕ) (m : List ℕ) → ((i : ℕ) → slice_index m i < k) → all_below k m ≡ true
 words_fit k [] h = refl
@@ -88,8 +77,4 @@ stays_small l w o g v there =
     )
 
 pub lived_happened : LivedHappened thin ours
-lived_happened l w g (opened ms begins) = nothing_yet
-lived_happened l w g (called {w = u} o r m a ls v there fits known did) =
-    and_then o r a (lived_happened l u g v) there fits known (answers_right l u o r m a ls g v there fits known did)
-lived_happened l w g (heard {w = u} x m ls v sent there did) = lived_happened l u g v
-lived_happened l w g (ticked {w = u} o m ls v there did) = lived_happened l u g v
+lived_happened = happened_if_right thin ours answers_right

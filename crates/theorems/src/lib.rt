@@ -4,8 +4,7 @@
 #![tactic(auto)]
 
 ghost use Rattle.parcels.specs.Calls.{thin};
-ghost use Rattle.promises.specs.Promise.{Right, RefusalKeeps, NewsComes, StaysSmall, NeverBack, OldLetters};
-ghost use Rattle.promises.specs.Beside.{LivedHappened};
+ghost use Rattle.promises.specs.Promise.{Right, RefusalKeeps, NewsComes, StaysSmall, LivedHappened, NeverBack, OldLetters, EightStatements};
 ghost use Rattle.theorems.specs.Ours.{ours};
 
 // Each answer is right, whatever happened before.
@@ -18,8 +17,8 @@ pub fn refusals_keep()
     ensures { RefusalKeeps thin ours }
 {}
 
-// News comes, even if all letters until now are lost. No office sends any yet: in this stage both calls whose
-// answers would take it are turned away.
+// News comes, even if all letters until now are lost. No office sends any yet: in this stage both calls that
+// need news are turned away.
 pub fn news_comes()
     ensures { NewsComes thin ours }
 {}
@@ -39,7 +38,14 @@ pub fn old_letters_change_nothing()
     ensures { OldLetters thin ours }
 {}
 
-// What offices live through happened: so what is true of all that happened (crate truths) is true of theirs.
+// What offices live through happened: so what is true of all that happened (crates truths and ways) is true of theirs.
 pub fn what_is_lived_happened()
     ensures { LivedHappened thin ours }
+{}
+
+// The eight statements on parcels, of offices that run this: parcels' steps come in turn, at one office at a time; no more is paid
+// out than is collected; each is handed out where it was for; what was told never goes back; old letters change nothing that an
+// office knows by itself; a slip works once; and a call that is turned away changes no book.
+pub fn eight_statements_hold()
+    ensures { EightStatements thin ours }
 {}

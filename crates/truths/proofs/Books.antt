@@ -15,6 +15,11 @@ use Rattle.promises.specs.Promise.{Happened, nothing_yet, and_then}
 abbrev pub and_said : ℕ → Reading → Answer → List Said → List Said
 and_said o r a xs = record { at = o; reading = r; answer = a } ∷ xs
 
+-- what stays either way stays
+pub pick_same : {X : Type 0} → (t : Bool) (x : X) → pick t x x ≡ x
+pick_same true x = refl
+pick_same false x = refl
+
 -- the book of the office that answered goes on
 pub truth_here : (l : Limits) (xs : List Said) (o : ℕ) (r : Reading) (a : Answer) → truth l (and_said o r a xs) o ≡ book_then l o (truth l xs o) r a
 unfolding truth
@@ -43,12 +48,12 @@ if_said l o b (Ok c) a P same new = go (not_refused a)
     go false = same
 if_said l o b (Err e) a P same new = same
 
--- what is so of the empty book, and stays so by each call whose values four bytes hold, is so of each book in truth
-pub each_book : {l : Limits} {xs : List Said} (P : Book → Type 0) → P [] → ((o : ℕ) (b : Book) (c : Call) → readable c ≡ true → P b → P (after l o b c)) → Happened l xs → (o : ℕ) → P (truth l xs o)
+-- what is so of an office's empty book, and stays so by each call whose values four bytes hold, is so of its book in truth
+pub each_book : {l : Limits} {xs : List Said} (P : ℕ → Book → Type 0) → ((o : ℕ) → P o []) → ((o : ℕ) (b : Book) (c : Call) → readable c ≡ true → P o b → P o (after l o b c)) → Happened l xs → (o : ℕ) → P o (truth l xs o)
 unfolding truth
-each_book P empty call nothing_yet o = empty
+each_book P empty call nothing_yet o = empty o
 each_book {l} P empty call (and_then {xs} q r a before in' fits known right) o =
-    let was : P (truth l xs q) = each_book P empty call before q in
-    each_truth l xs q r a (λ _ b. P b)
-    (if_said l q (truth l xs q) r a P was (λ c is. call q (truth l xs q) c (subst (λ x. row_readable x ≡ true) is fits) was))
+    let was : P q (truth l xs q) = each_book P empty call before q in
+    each_truth l xs q r a P
+    (if_said l q (truth l xs q) r a (P q) was (λ c is. call q (truth l xs q) c (subst (λ x. row_readable x ≡ true) is fits) was))
     (λ p _. each_book P empty call before p) o

@@ -205,17 +205,18 @@ unfolding truth
 none_there nothing_yet o far = refl
 none_there {l} (and_then {xs} q r a before in' fits known right) o far = truth_elsewhere l xs o q r a (grind (arith, nat_tests)) ∙ none_there before o far
 
--- so each key tells one that is there, since the parcel stands in that one's book
-pub origins : {l : Limits} {xs : List Said} → l.parcels ≤ most_parcels → Happened l xs → (o : ℕ) → AllKeys (λ key. origin key < l.offices) (truth l xs o)
+-- so a book that has a parcel is that of an office that is there
+pub office_there : {l : Limits} {xs : List Said} → Happened l xs → (o key : ℕ) → has (truth l xs o) key ≡ true → o < l.offices
 unfolding has
-origins {l} {xs} limit h o key there =
-    elim (cases_Bool (ltb (origin key) l.offices)) [
+office_there {l} {xs} h o key there =
+    elim (cases_Bool (ltb o l.offices)) [
       | inl low ↦ grind (arith, nat_tests)
-      | inr high ↦
-          let empty : truth l xs (origin key) ≡ [] = none_there h (origin key) (grind (arith, nat_tests)) in
-          let home : AtHome l xs key = (kept limit h).home o key there in
-          absurd (cc)
+      | inr high ↦ let empty : truth l xs o ≡ [] = none_there h o (grind (arith, nat_tests)) in absurd (cc)
     ]
+
+-- and each key tells one that is there, since the parcel stands in that one's book
+pub origins : {l : Limits} {xs : List Said} → l.parcels ≤ most_parcels → Happened l xs → (o : ℕ) → AllKeys (λ key. origin key < l.offices) (truth l xs o)
+origins limit h o key there = office_there h (origin key) key ((kept limit h).home o key there)
 
 pub no_key_twice : NoKeyTwice
 no_key_twice can l xs g h =

@@ -13,13 +13,13 @@ use Rattle.parcels.specs.declared.Refusal.{Refusal}
 use Rattle.parcels.specs.declared.Answer.{Answer}
 use Rattle.parcels.specs.declared.Answer.TheVariants.{Refused, Number}
 use Rattle.wire.specs.Calls.{Reading}
-use Rattle.promises.specs.Truth.{move_then, truth, in_truth, Move, one_move}
+use Rattle.promises.specs.Truth.{move_then, truth, in_truth, one_move}
 use Rattle.promises.specs.World.{Said}
 use Rattle.promises.specs.Promise.{RightRow, nothing_yet, and_then}
 use Rattle.promises.specs.Beside.{is_key, is_slip, is_number, step_in, steps_told, StepsTold}
 use Rattle.laws.proofs.Calls.{passed}
 use Rattle.laws.proofs.Keys.{accepted_small}
-use Rattle.truths.proofs.Books.{and_said}
+use Rattle.truths.proofs.Books.{pick_same, and_said}
 
 -- the steps in truth, with one thing more said
 pub steps_more : (l : Limits) (xs : List Said) (o : ℕ) (r : Reading) (a : Answer) (p : ℕ) → in_truth l (and_said o r a xs) p ≡ in_truth l xs p ++ move_then o (truth l xs o) r a p
@@ -39,11 +39,6 @@ key_fits l o b dest amount offices parcels there free =
     let room : has_room l.parcels b ≡ true = (passed (has_room l.parcels b) None OverLimit (passed (l.can 0 && good_fields l o (Accept dest amount)) _ OutOfRange free).1).0 in
     lt-ltb (new_key o b) four_bytes (omega (arith, accepted_small o l.parcels b room parcels, offices, there))
 
--- a call that makes no step makes none where it is taken, too
-no_step : (taken : Bool) (ms : List Move) → ms ≡ pick taken ms ms
-no_step true ms = refl
-no_step false ms = refl
-
 -- a right answer tells of the step that it makes
 right_step : (l : Limits) (xs : List Said) (o : ℕ) (r : Reading) (a : Answer) (p : ℕ) → l.offices ≤ most_offices → l.parcels ≤ most_parcels → o < l.offices → RightRow l xs o r a → step_in o r a p ≡ move_then o (truth l xs o) r a p
 unfolding told
@@ -55,7 +50,7 @@ right_step l xs o (Ok (Send key to)) a p offices parcels there right =
     let b : Book = truth l xs o in
     let c : Call = Send key to in
     rw right (made_step SentOn o (λ x. is_slip x && eqb key p) (eqb key p) c (told o b c) (turned l o b c) (λ f. refl) refl (λ free. refl))
-right_step l xs o (Ok (SlipAgain key)) a p offices parcels there right = no_step (not_refused a) []
+right_step l xs o (Ok (SlipAgain key)) a p offices parcels there right = sym (pick_same (not_refused a) [])
 right_step l xs o (Ok (TakeIn s)) a p offices parcels there right =
     let b : Book = truth l xs o in
     let c : Call = TakeIn s in
@@ -64,10 +59,10 @@ right_step l xs o (Ok (HandOut key)) a p offices parcels there right =
     let b : Book = truth l xs o in
     let c : Call = HandOut key in
     rw right (made_step HandedOut o (λ x. is_number x && eqb key p) (eqb key p) c (told o b c) (turned l o b c) (λ f. refl) refl (λ free. refl))
-right_step l xs o (Ok (Pay key)) a p offices parcels there right = no_step (not_refused a) []
-right_step l xs o (Ok (WhereIs key)) a p offices parcels there right = no_step (not_refused a) []
-right_step l xs o (Ok (Here from)) a p offices parcels there right = no_step (not_refused a) []
-right_step l xs o (Ok Sums) a p offices parcels there right = no_step (not_refused a) []
+right_step l xs o (Ok (Pay key)) a p offices parcels there right = sym (pick_same (not_refused a) [])
+right_step l xs o (Ok (WhereIs key)) a p offices parcels there right = sym (pick_same (not_refused a) [])
+right_step l xs o (Ok (Here from)) a p offices parcels there right = sym (pick_same (not_refused a) [])
+right_step l xs o (Ok Sums) a p offices parcels there right = sym (pick_same (not_refused a) [])
 right_step l xs o (Err e) a p offices parcels there right = refl
 
 pub told_in_truth : StepsTold

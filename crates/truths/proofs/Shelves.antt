@@ -18,7 +18,7 @@ use Rattle.truths.proofs.Keys.{few_parcels, origins}
 
 -- no amount is above the largest, and each parcel has one entry
 amounts_fit_once : {l : Limits} {xs : List Said} → Happened l xs → (o : ℕ) → AmountsFit (truth l xs o) × (each_once (truth l xs o) ≡ true)
-amounts_fit_once {l} = each_book (λ b. AmountsFit b × (each_once b ≡ true)) sums_stay_fit.empty (λ o b c _ (fit, once). sums_stay_fit.call l o b c fit once)
+amounts_fit_once {l} = each_book (λ _ b. AmountsFit b × (each_once b ≡ true)) (λ _. sums_stay_fit.empty) (λ o b c _ (fit, once). sums_stay_fit.call l o b c fit once)
 
 -- where each key in a book tells one of sixteen offices, what was answered is no further than these offices' keys
 asked_low : (b : Book) → each_once b ≡ true → AllKeys (λ key. origin key < most_offices) b → (n : ℕ) → asked_on b n ≤ most_offices * keys_of_an_office

@@ -9,10 +9,9 @@ use Rattle.parcels.specs.declared.Call.TheVariants.{TakeIn}
 use Rattle.parcels.specs.declared.Reason.TheVariants.{OutOfRange, WrongSlip, OverLimit}
 use Rattle.parcels.specs.declared.Answer.{Answer}
 use Rattle.wire.specs.Calls.{Reading}
-use Rattle.promises.specs.Truth.{book_then, truth}
 use Rattle.promises.specs.World.{Said}
-use Rattle.promises.specs.Promise.{RightRow, Happened, nothing_yet, and_then}
-use Rattle.promises.specs.Beside.{IsTakenIn, SlipSpent}
+use Rattle.promises.specs.Truth.{book_then, truth}
+use Rattle.promises.specs.Promise.{RightRow, Happened, nothing_yet, and_then, IsTakenIn, SlipOnlyOnce}
 use Rattle.laws.proofs.Calls.{passed, not_turned, if_taken, used_up, refused_again}
 use Rattle.laws.proofs.Steps.{never_works}
 use Rattle.truths.proofs.Books.{each_truth, if_said}
@@ -62,8 +61,8 @@ good_still {l} (and_then {xs} o r a before in' fits known right) s (inl (is, tak
     (passed (l.can 3 && good_fields l o (TakeIn s)) (checked l o b (TakeIn s)) OutOfRange (not_turned l o b (TakeIn s) (subst (λ (x : Answer). not_refused x ≡ true) by taken))).0
 good_still (and_then o r a before in' fits known right) s (inr was) q = good_still before s was q
 
-pub slip_spent : SlipSpent
+pub slip_spent : SlipOnlyOnce
 unfolding checked
-slip_spent can l xs o s g h was =
+slip_spent can l xs g h o s was =
     let b : Book = truth l xs o in
     refused_again (l.can 3 && good_fields l o (TakeIn s)) (slip_works o b s) (has b s.key || has_room l.parcels b) (good_still h s was o) (no_more g.2 h s was o)

@@ -16,7 +16,7 @@ use Rattle.truths.proofs.Books.{each_book}
 use Rattle.truths.proofs.Slips.{SlipOf, sent_now, sent_before, slip_given}
 
 steps_fit : {l : Limits} {xs : List Said} → Happened l xs → (o : ℕ) → StepsFit (truth l xs o)
-steps_fit {l} = each_book StepsFit stay_fit.empty (stay_fit.call l)
+steps_fit {l} = each_book (λ _. StepsFit) (λ _. stay_fit.empty) (stay_fit.call l)
 
 -- how far steps of all kinds go
 most_at_all : (k : Kind) → most_step k ≤ four_bytes + 1

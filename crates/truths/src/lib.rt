@@ -2,7 +2,8 @@
 // office's program. Each function does nothing: its contract is the theorem, and its proof is what the check asks for.
 #![tactic(auto)]
 
-ghost use Rattle.promises.specs.Beside.{StepsTold, NoKeyTwice, SlipsFit, SlipSpent, ShelvesAndSums};
+ghost use Rattle.promises.specs.Promise.{SlipOnlyOnce};
+ghost use Rattle.promises.specs.Beside.{StepsTold, NoKeyTwice, SlipsFit, ShelvesAndSums};
 
 // No key is given out twice, over all offices; each tells the office that gave it out; no slip brings one that its office has
 // yet to give out; and each key in a book tells an office that is there.
@@ -17,7 +18,7 @@ pub fn slips_fit()
 
 // Once a parcel was taken in with a slip, that slip is turned away for ever, at all offices, as one that doesn't work.
 pub fn slips_are_spent()
-    ensures { SlipSpent }
+    ensures { SlipOnlyOnce }
 {}
 
 // At each office eight bytes hold what was collected and what was paid out, and who asks on finds all parcels that are

@@ -1,0 +1,14 @@
+pub mod Turns
+pub mod Stays
+pub mod Makes
+pub mod Nexts
+pub mod Does
+pub mod Keeps
+pub mod Each
+pub mod Follow
+pub mod Further
+pub mod Totals
+pub mod Paid
+pub mod Goods
+pub mod Money
+pub mod Programs
