@@ -8,13 +8,13 @@ use Rattle.std.proofs.lemmas.Option.{slice_get_read, slice_get-get_or}
 use Rattle.std.proofs.Math.Seq.{get_or-append_seam}
 use Rattle.parcels.specs.declared.Kind.{Kind}
 use Rattle.parcels.specs.declared.Step.{Step}
-use Rattle.promises.specs.Truth.{Move, one_move}
+use Rattle.promises.specs.Truth.{Move, one_move, last_of}
 use Rattle.promises.specs.Beside.{steps_told}
 use Rattle.world.specs.declared.Exchange.{Exchange}
 use Rattle.world.specs.Journal.{history}
 use Rattle.world.proofs.Journal.{history_push}
 use Rattle.tracking.specs.declared.Told.{Told}
-use Rattle.tracking.specs.Steps.{last_of, last_told, told_move, Tells}
+use Rattle.tracking.specs.Steps.{last_told, told_move, Tells}
 
 -- a map has the last steps by so many exchanges, which tell of no more steps of a parcel than they are
 pub record TellsFirst (count : ℕ) (xs : List Exchange) (steps : BTreeMap ℕ Step) : Type 0 where

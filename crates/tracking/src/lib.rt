@@ -1,12 +1,12 @@
 // Where each parcel is, by what was taken everywhere.
 #![tactic(auto)]
 
-ghost use Rattle.std.specs.Prelude.{◌≡◌, ℕ, ◌+◌, ◌^◌, ◌<◌, IfOk, MatchOption};
+ghost use Rattle.std.specs.Prelude.{◌≡◌, ℕ, ◌+◌, ◌^◌, ◌<◌, IfOk, MatchOption, Some};
 ghost use Rattle.std.specs.Option.{ForSome};
 ghost use Rattle.std.specs.Ordering.{nat_cmp};
 ghost use Rattle.std.specs.BTreeMap.{get};
 ghost use Rattle.world.specs.View.{limits_of, journal_of};
-ghost use Rattle.tracking.specs.Steps.{Tells, last_step, last_told};
+ghost use Rattle.tracking.specs.Steps.{Tells, last_step, last_told, IsHeld};
 
 use parcels::{Answer, Call, Kind, Step};
 use std::alloc::{AllocError, Global};
@@ -68,10 +68,12 @@ fn steps_by(heap: Global, journal: &[Exchange]) -> Result<BTreeMap<u32, Step>, A
     Ok(steps)
 }
 
-// The last step of each parcel that took one in a world, by the parcel's key.
-#[tactic(auto, using(crate::proofs::Truth::told_last))]
+// The last step of each parcel that took one in a world, by the parcel's key. The office that made it has the parcel by it in
+// its memory.
+#[tactic(auto, using(crate::proofs::Truth::told_last, crate::proofs::Truth::told_held))]
 pub fn last_steps(heap: Global, world: &World) -> Result<BTreeMap<u32, Step>, AllocError>
-    ensures { IfOk result (λ steps. (key : ℕ) → get nat_cmp steps key ≡ last_step (limits_of world.now) (journal_of world.now) key) }
+    ensures value { IfOk result (λ steps. (key : ℕ) → get nat_cmp steps key ≡ last_step (limits_of world.now) (journal_of world.now) key) }
+    ensures held { IfOk result (λ steps. (key : ℕ) (step : Step) → get nat_cmp steps key ≡ Some step → IsHeld world.now key step) }
 {
     steps_by(heap, world.journal())
 }

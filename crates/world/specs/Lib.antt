@@ -4,3 +4,4 @@ pub mod Journal
 pub mod View
 pub mod Opening
 pub mod Outcome
+pub mod Safe

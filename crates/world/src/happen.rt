@@ -1,11 +1,11 @@
 // The things that can happen in a world.
 ghost use Rattle.std.specs.Prelude.{◌≡◌, ◌<◌, ◌⊎◌, false, [], ◌∷◌, ◌++◌, length, Decides, IsErr, OnOk, vec_items, vec_len, vec_capacity};
 ghost use Rattle.promises.specs.World.{IsGiven, IsRowKnown};
-ghost use Rattle.theorems.specs.Ours.{BooksAreTrue};
 ghost use Rattle.world.specs.Journal.{history};
 ghost use Rattle.world.specs.Opening.{Opens};
+ghost use Rattle.world.specs.Safe.{Safe};
 ghost use Rattle.world.specs.Outcome.{at_office, AtOffice, Came, Called, Comes, Happens, is_call};
-ghost use Rattle.world.specs.View.{limits_of, letters_of, journal_of, memories, memory_of, SameSaid};
+ghost use Rattle.world.specs.View.{limits_of, letters_of, journal_of, memories, SameSaid};
 
 use crate::mail::Mail;
 use crate::station::{Asked, Station};
@@ -173,13 +173,14 @@ impl World {
     }
 
     // Lets one thing happen, and gives the answer, if it has one: a call's answer is right, by all that was said before at
-    // all offices. What can't happen changes nothing.
-    #[tactic(auto, using(crate::proofs::Happened::books_true))]
+    // all offices. What can't happen changes nothing. Whatever happened, each office's memory means its book in truth, and the
+    // parcels are safe.
+    #[tactic(auto, using(crate::proofs::Happened::kept_safe))]
     pub fn happen(&mut self, happening: Happening) -> Result<Option<Answer>, CannotHappen>
         ensures value { Happens (limits_of self.old) (letters_of self.old) (journal_of self.old) happening.entry result (journal_of self.new) }
         ensures same { (limits_of self.new ≡ limits_of self.old) × (letters_of self.new ≡ letters_of self.old) }
         ensures kept { (IsErr result ⊎ (is_call happening.entry ≡ false)) → memories self.new ≡ memories self.old }
-        ensures books { BooksAreTrue (limits_of self.new) (history (journal_of self.new)) (memory_of self.new) }
+        ensures safe { Safe self.new }
     {
         match happening {
             Happening::Call { at, call } => self.call(at, call).map(Some),
