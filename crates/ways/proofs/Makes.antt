@@ -23,7 +23,6 @@ shown e o = record { kind = e.kind; office = o }
 -- is the parcel at that office. If a slip tells the last step, this one is coming in, at the office that the slip is for. It is
 -- handed out only where it is for; it is paid for only where it may be; for which office it is, and its amount, stay.
 pub record IsNext (books : ℕ → Book) (IsOut : Slip → Type 0) (p : ℕ) (ms : List Move) (o : ℕ) (e : Entry) : Type 0 where
-  pub key : e.key ≡ p
   pub next : e.step ≡ length ms
   pub turn : in_turn (origin p) (Some unknown) (ms ++ shown e o ∷ []) ≡ true
   pub not_elsewhere : (q : ℕ) → eqb o q ≡ false → has (books q) p ≡ true → leaves_it_here (own (books q) p).kind ≡ true → ⊥

@@ -12,7 +12,6 @@ use Rattle.parcels.specs.declared.Entry.{Entry}
 use Rattle.promises.specs.Truth.{Move}
 use Rattle.promises.specs.Promise.{unknown, in_turn}
 use Rattle.promises.specs.Way.{IsStep, EntryTrue, SlipTrue, Way}
-use Rattle.laws.proofs.Books.{own_key}
 use Rattle.ways.proofs.Turns.{follows, turn_first, turn_next, begins, step_same}
 use Rattle.ways.proofs.Makes.{IsNext}
 
@@ -39,7 +38,6 @@ module _ (books : ℕ → Book) (IsOut : Slip → Type 0) (o : ℕ) where
   accepts_next p dest amount ms ours new was =
       let none : length ms ≡ 0 = untouched p ms ours new was in
       record {
-        key = refl;
         next = sym none;
         turn = subst (λ q. in_turn (origin p) (Some unknown) (ms ++ record { kind = Accepted; office = q } ∷ []) ≡ true) ours (turn_first (origin p) ms none);
         not_elsewhere = λ q _ there _. omega (arith, none, (was.entries q there).made.0);
@@ -57,7 +55,6 @@ module _ (books : ℕ → Book) (IsOut : Slip → Type 0) (o : ℕ) where
       let now : EntryTrue ms IsOut (own (books (origin p)) p) p o e = was.entries o there in
       let last : suc e.step ≡ length ms = now.here here in
       record {
-        key = own_key (books o) p there;
         next = last;
         turn = turn_next (origin p) ms e.step e.kind o (record { kind = kind; office = o }) was.in_turn now.made last goes;
         not_elsewhere = λ q other had at.
@@ -91,7 +88,6 @@ module _ (books : ℕ → Book) (IsOut : Slip → Type 0) (o : ℕ) where
       let to : s.to ≡ o = eqb-true s.to o (and_parts (eqb s.to o) _ works).0 in
       let last : suc s.step ≡ length ms = works_last p ms s out refl to (λ there. grind (arith, nat_tests)) was in
       record {
-        key = refl;
         next = last;
         turn = turn_next (origin p) ms s.step SentOn s.from (record { kind = ComeIn; office = o }) was.in_turn told.sent last refl;
         not_elsewhere = λ q _ had at.
