@@ -1,10 +1,11 @@
 -- How a search goes through a sound tree.
-use Rattle.std.proofs.Common.{◌≡◌, ℕ, zero, suc, ◌+◌, ◌*◌, ◌/◌, ◌%◌, ◌^◌, ◌<◌, ◌≤◌, eqb, ◌≢◌, sym, refl, ap, ◌∙◌, subst, inl, inr, add-one, arith, eq-eqb, ne_eqb}
+use Rattle.std.proofs.Common.{◌≡◌, ℕ, zero, suc, ◌+◌, ◌*◌, ◌/◌, ◌%◌, ◌^◌, ◌<◌, ◌≤◌, eqb, ◌≢◌, sym, refl, ap, ◌∙◌, subst, inl, inr, add-one, arith, eq-eqb, ne_eqb, Ok, Err}
 use Rattle.std.proofs.lemmas.Nat.{shr-shr}
 use Rattle.std.proofs.lemmas.Bool.{cases_eq}
 use Rattle.std.proofs.lemmas.Bool.Decides.{nat_tests}
 use Rattle.parcels.specs.Book.{pick}
 use Rattle.rows.specs.declared.Link.{Link}
+use Rattle.book.specs.Search.{led_to}
 use Rattle.book.specs.Tree.{Tree, root, key_bits, turns_right, link_below, Spot, at, free, seek, height, Hangs, SoundTree, spot_of}
 
 bit_of : (x : ℕ) → pick (eqb (x % 2) 1) 1 0 ≡ x % 2
@@ -15,6 +16,13 @@ pub one_bit : (key h : ℕ) → key / 2 ^ h ≡ 2 * (key / 2 ^ suc h) + pick (tu
 one_bit key h =
     let half : key / 2 ^ h / 2 ≡ key / 2 ^ suc h = shr-shr key h 1 ∙ ap (λ n. key / 2 ^ n) (add-one h) in
     rw (bit_of (key / 2 ^ h)) (omega (arith, half))
+
+-- what a link leads to
+pub led_free : (t : Tree) (l : Link) → t.link l ≡ 0 → led_to t l ≡ Err l
+led_free t l e = rw (eq-eqb (t.link l) 0 e)
+
+pub led_on : (t : Tree) (l : Link) → t.link l ≢ 0 → led_to t l ≡ Ok (t.link l)
+led_on t l e = rw (ne_eqb (t.link l) 0 e)
 
 -- one step of a search, by what stands at its link
 pub seek_free : (t : Tree) (h : ℕ) (l : Link) (key : ℕ) → t.link l ≡ 0 → seek t h l key ≡ free l h

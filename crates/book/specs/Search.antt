@@ -1,14 +1,18 @@
 -- The search for a key in memory, as the code does it.
-use Rattle.std.specs.Prelude.{◌≡◌, true, false, ℕ, ◌/◌, ◌^◌, ◌≤◌, List, Result, Ok, Err}
-use Rattle.parcels.specs.Book.{has, own}
+use Rattle.std.specs.Prelude.{◌≡◌, true, false, ℕ, ◌/◌, ◌^◌, ◌≤◌, List, Result, Ok, Err, ◌==◌}
+use Rattle.parcels.specs.Book.{pick, has, own}
 use Rattle.rows.specs.Layout.{HasRow, head_at, entry_at, book_at}
 use Rattle.rows.specs.declared.Link.{Link}
-use Rattle.book.specs.Tree.{tree_of, key_bits, Spot, at, free, Hangs, SoundTree, spot_of}
+use Rattle.book.specs.Tree.{Tree, tree_of, key_bits, Spot, at, free, Hangs, SoundTree, spot_of}
 
 -- where a search ends, without how many bits of the key are left
 abbrev pub end_of : Spot → Result ℕ Link
 end_of (at row height) = Ok row
 end_of (free link height) = Err link
+
+-- what a link leads to: a row, or nothing
+abbrev pub led_to : Tree → Link → Result ℕ Link
+led_to t l = pick (t.link l == 0) (Err l) (Ok (t.link l))
 
 -- where the whole search for a key ends: at its row, or at the link by which its row would hang
 abbrev pub search_end : List ℕ → ℕ → Result ℕ Link

@@ -17,7 +17,7 @@ ghost use Rattle.book.specs.Keeping.{looked_up, can_put, put_in, SameElsewhere};
 use key::KeyParts;
 use opening::Opening;
 use parcels::Entry;
-use rows::{Link, read_entry, read_head};
+use rows::{Link, read_entry, read_head, read_link};
 use tally::{Shelf, Sums};
 use tree::{ROOT, add, change, seek};
 
@@ -109,7 +109,8 @@ impl<'a> Book<'a> {
     fn row_of(&self, key: u32) -> Result<u32, Link>
         ensures { RowOf self.now.memory.now key result }
     {
-        seek(self.memory, ROOT, key, u32::BITS)
+        let end = seek(self.memory, ROOT, key, u32::BITS);
+        read_link(self.memory, end).ok_or(end)
     }
 
     // What it has of a parcel.

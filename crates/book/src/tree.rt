@@ -5,7 +5,7 @@ ghost use Rattle.parcels.specs.Numbers.{most_parcels};
 ghost use Rattle.parcels.specs.Book.{has_room};
 ghost use Rattle.rows.specs.Layout.{HasRow, head_at, book_at};
 ghost use Rattle.book.specs.Tree.{tree_of, turns_right, seek};
-ghost use Rattle.book.specs.Search.{end_of, search_end, Searchable};
+ghost use Rattle.book.specs.Search.{end_of, led_to, search_end, Searchable};
 ghost use Rattle.book.specs.Sound.{Sound};
 ghost use Rattle.book.specs.Keeping.{IsPut};
 ghost use Rattle.book.specs.Adding.{counted_head, Cleared, RowAdded};
@@ -45,18 +45,19 @@ fn turns_right(bit: u32, key: u32) -> bool
     (key >> bit) % 2 == 1
 }
 
-// The search from a link on, with so many bits of the key left. With none left, the row has this key. It ends at the
-// key's row, or fails at a link that leads nowhere, where its row would hang. By recursion over a height that falls,
-// which is the form in which this project goes through a book.
-pub(crate) fn seek(memory: &[u32], link: Link, key: u32, height: u32) -> Result<u32, Link>
+// The search from a link on, with so many bits of the key left: the link at which it ends, which leads to the key's row, or
+// nowhere, where its row would hang. With no bits left, the row has this key. By recursion over a height that falls, which is
+// the form in which this project goes through a book; a link is small enough that the compiler makes a loop of it.
+pub(crate) fn seek(memory: &[u32], link: Link, key: u32, height: u32) -> Link
     requires { Searchable memory.now link key height }
-    ensures { result ≡ end_of (seek (tree_of memory.now) height link key) }
+    ensures value { led_to (tree_of memory.now) result ≡ end_of (seek (tree_of memory.now) height link key) }
+    ensures within { HasRow memory.now result.row }
 {
     let Some(row) = read_link(memory, link) else {
-        return Err(link);
+        return link;
     };
     if height == 0 || read_key(memory, row) == key {
-        return Ok(row);
+        return link;
     }
     let bit = height - 1;
     let right = turns_right(bit, key);

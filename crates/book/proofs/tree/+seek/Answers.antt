@@ -3,8 +3,8 @@ use Rattle.std.proofs.lemmas.Bool.Decides.{nat_tests}
 use Rattle.rows.specs.Layout.{words_for, head_at, entry_at, link_at, row_named}
 use Rattle.rows.specs.declared.Link.{Link}
 use Rattle.book.specs.Tree.{tree_of, link_below, seek}
-use Rattle.book.specs.Search.{end_of, Searchable}
-use Rattle.book.proofs.Search.{seek_free, seek_here, seek_last, seek_on, leads, hangs_below}
+use Rattle.book.specs.Search.{end_of, led_to, Searchable}
+use Rattle.book.proofs.Search.{seek_free, seek_here, seek_last, seek_on, led_free, led_on, hangs_row, leads, hangs_below}
 use Rattle.book.proofs.tree.+seek.Goals as goal
 use Rattle.book.proofs.tree.+seek.Goals.{then-height-eq0-via-then-height-eq0, then-height-eq0-via-else-height-eq0+then-read_key-key}
 
@@ -40,24 +40,38 @@ module _ (m : List ℕ) (l : Link) (key row : ℕ) (is : Some row ≡ row_named 
         high = let high = s.high in omega arith;
       })
 
-  last : (h : ℕ) → h ≡ 0 → Ok row ≡ end_of (seek (tree_of m) h l key)
-  last h e = rw (e, there, seek_last (tree_of m) l key leads_on)
+  last : (h : ℕ) → h ≡ 0 → led_to (tree_of m) l ≡ end_of (seek (tree_of m) h l key)
+  last h e = led_on (tree_of m) l leads_on ∙ rw (e, seek_last (tree_of m) l key leads_on)
 
-  here : (h : ℕ) → (entry_at m row).key ≡ key → Ok row ≡ end_of (seek (tree_of m) h l key)
-  here h k = rw (seek_here (tree_of m) h l key leads_on (rw (← there) k), there)
+  here : (h : ℕ) → (entry_at m row).key ≡ key → led_to (tree_of m) l ≡ end_of (seek (tree_of m) h l key)
+  here h k = led_on (tree_of m) l leads_on ∙ rw (seek_here (tree_of m) h l key leads_on (rw (← there) k))
 
   on : (h : ℕ) → (entry_at m row).key ≢ key → end_of (seek (tree_of m) h (link_below row h key) key) ≡ end_of (seek (tree_of m) (suc h) l key)
   on h k = rw (seek_on (tree_of m) h l key leads_on (rw (← there) k), there)
 
-pub returns-in_default : goal.returns-in_default
-returns-in_default t c =
-    rw (seek_free (tree_of c.args.memory.now) c.args.height c.args.link c.args.key (nowhere (link_at c.args.memory.now c.args.link) c.in_default.ensures))
+-- the link's own row is in memory
+held : (m : List ℕ) (l : Link) (key h : ℕ) → Searchable m l key h → words_for l.row ≤ length m
+held m l key h s =
+    let low : l.row ≤ (head_at m).count = hangs_row (tree_of m) (head_at m).count h (key / 2 ^ h) l s.hangs in
+    let enough = s.enough in
+    omega arith
+
+pub returns-in_default-clause-value : goal.returns-in_default-clause-value
+returns-in_default-clause-value t c =
+    let none : link_at c.args.memory.now c.args.link ≡ 0 = nowhere (link_at c.args.memory.now c.args.link) c.in_default.ensures in
+    led_free (tree_of c.args.memory.now) c.args.link none ∙ rw (seek_free (tree_of c.args.memory.now) c.args.height c.args.link c.args.key none)
+
+pub returns-in_default-clause-within : goal.returns-in_default-clause-within
+returns-in_default-clause-within t c = held c.args.memory.now c.args.link c.args.key c.args.height c.requires
 
 pub read_key-requires : goal.read_key-requires
 read_key-requires t c = row_room c.args.memory.now c.args.link c.args.key c.in-Some.row c.in-Some.ensures c.args.height c.requires
 
-pub returns-then-height-eq0 : goal.returns-then-height-eq0
-returns-then-height-eq0 t c =
+pub returns-then-height-eq0-clause-within : goal.returns-then-height-eq0-clause-within
+returns-then-height-eq0-clause-within t c = held c.args.memory.now c.args.link c.args.key c.args.height c.requires
+
+pub returns-then-height-eq0-clause-value : goal.returns-then-height-eq0-clause-value
+returns-then-height-eq0-clause-value t c =
     elim c.then-height-eq0.branch [
       | then-height-eq0-via-then-height-eq0 w ↦
           last c.args.memory.now c.args.link c.args.key c.in-Some.row c.in-Some.ensures c.args.height w.if-height-eq0.true
@@ -72,10 +86,13 @@ seek-requires t c =
       rw c.turns_right-right.ensures (below c.args.memory.now c.args.link c.args.key c.in-Some.row c.in-Some.ensures (c.args.height - 1) (rw one c.requires)),
     )
 
-pub returns : goal.returns
-returns t c =
+pub returns-clause-within : goal.returns-clause-within
+returns-clause-within t c = c.seek.ensures.within
+
+pub returns-clause-value : goal.returns-clause-value
+returns-clause-value t c =
     let one : suc (c.args.height - 1) ≡ c.args.height = let h = c.if-height-eq0.false in omega arith in
-    c.seek.ensures
+    c.seek.ensures.value
     ∙ ap (λ t. end_of (seek (tree_of c.args.memory.now) (c.args.height - 1) (record { row = c.in-Some.row; right = t }) c.args.key)) c.turns_right-right.ensures
     ∙ on c.args.memory.now c.args.link c.args.key c.in-Some.row c.in-Some.ensures (c.args.height - 1) (λ k. c.if-read_key-key.false (c.read_key.ensures ∙ k))
     ∙ ap (λ h. end_of (seek (tree_of c.args.memory.now) h c.args.link c.args.key)) one
