@@ -19,7 +19,7 @@ nowhere t h prefix l none hangs = grind arith
 pub empty_tree : (t : Tree) → t.link root ≡ 0 → SoundTree t 0
 empty_tree t none =
     record {
-      linked = λ x. absurd (x.leads (nowhere t x.bits x.prefix x.link none x.hangs));
+      linked = λ x. absurd (x.leads (nowhere t x.bits x.low x.link none x.hangs));
       found = λ x. absurd (omega arith);
     }
 

@@ -3,7 +3,7 @@ use Rattle.std.proofs.Common.{◌≡◌, ℕ, suc, ◌+◌, ◌*◌, ◌/◌, �
 use Rattle.std.proofs.lemmas.Bool.{cases_lt}
 use Rattle.parcels.specs.Book.{pick}
 use Rattle.rows.specs.declared.Link.{Link}
-use Rattle.book.specs.Tree.{Tree, root, key_bits, link_below, Spot, at, free, spot_row, spot_height, seek, height, Hangs, Linked, Found, SoundTree, spot_of}
+use Rattle.book.specs.Tree.{Tree, root, key_bits, bit_at, prefix, link_below, Spot, at, free, spot_row, spot_height, seek, height, Hangs, Linked, Found, SoundTree, spot_of}
 use Rattle.book.proofs.Search.{seek_here, seek_on, Way, stops, ends, goes, hangs_row, leads, whole_way, way_free}
 
 -- the tree before and after: the row behind the last one got the key, an empty link leads to it, and it has no links
@@ -79,32 +79,32 @@ module _ (t t' : Tree) (n key : ℕ) (end : Link) (left : ℕ) (sound : SoundTre
   unfolding height
   height_new = ap spot_height found_new
 
-  hangs_back : (h prefix : ℕ) (l : Link) → l.row ≤ n → Hangs t' (suc n) h prefix l → Hangs t n h prefix l
-  hangs_back h prefix l low (inl root) = inl root
-  hangs_back h prefix l low (inr (one, _, high, is)) =
-      inr (one, low, sym (height_kept l.row one low) ∙ high, is ∙ ap (λ k. 2 * (k / 2 ^ suc h) + pick l.right 1 0) (grown.keys l.row one low))
+  hangs_back : (h low : ℕ) (l : Link) → l.row ≤ n → Hangs t' (suc n) h low l → Hangs t n h low l
+  hangs_back h low l within (inl root) = inl root
+  hangs_back h low l within (inr (one, _, high, is)) =
+      inr (one, within, sym (height_kept l.row one within) ∙ high, is ∙ ap (λ k. pick l.right 1 0 * 2 ^ bit_at h + prefix (suc h) k) (grown.keys l.row one within))
 
-  Leads : (h prefix : ℕ) (l : Link) → Type 0
-  Leads h prefix l = (t'.link l ≤ suc n) × (height t' (t'.link l) ≡ h) × (t'.key (t'.link l) / 2 ^ h ≡ prefix)
+  Leads : (h low : ℕ) (l : Link) → Type 0
+  Leads h low l = (t'.link l ≤ suc n) × (height t' (t'.link l) ≡ h) × (prefix h (t'.key (t'.link l)) ≡ low)
 
-  leads_new : (h prefix : ℕ) (l : Link) → l ≡ end → Hangs t n h prefix l → Leads h prefix l
+  leads_new : (h low : ℕ) (l : Link) → l ≡ end → Hangs t n h low l → Leads h low l
   unfolding Leads
-  leads_new h prefix l e hangs =
+  leads_new h low l e hangs =
       let f : t'.link l ≡ suc n = ap t'.link e ∙ grown.leads in
       let there = way_free end left (whole_way t n sound key small) freed in
-      let (bits, begins) = hangs_once t n end h prefix left (key / 2 ^ left) (subst (λ (x : Link). Hangs t n h prefix x) e hangs) there.0 in
-      (omega arith, ap (height t') f ∙ height_new ∙ sym bits, ap (λ r. t'.key r / 2 ^ h) f ∙ ap (λ k. k / 2 ^ h) grown.has ∙ ap (λ b. key / 2 ^ b) bits ∙ sym begins)
+      let (bits, begins) = hangs_once t n end h low left (prefix left key) (subst (λ (x : Link). Hangs t n h low x) e hangs) there.0 in
+      (omega arith, ap (height t') f ∙ height_new ∙ sym bits, ap (λ r. prefix h (t'.key r)) f ∙ ap (λ k. prefix h k) grown.has ∙ ap (λ b. prefix b key) bits ∙ sym begins)
 
-  leads_old : (h prefix : ℕ) (l : Link) → l.row ≤ n → l ≢ end → Hangs t n h prefix l → t'.link l ≢ 0 → Leads h prefix l
+  leads_old : (h low : ℕ) (l : Link) → l.row ≤ n → l ≢ end → Hangs t n h low l → t'.link l ≢ 0 → Leads h low l
   unfolding Leads
-  leads_old h prefix l low other hangs some =
-      let f : t'.link l ≡ t.link l = grown.links l low other in
+  leads_old h low l row other hangs some =
+      let f : t'.link l ≡ t.link l = grown.links l row other in
       let old : t.link l ≢ 0 = λ z. some (f ∙ z) in
-      let (within, high, begins) = leads t n sound h prefix l hangs old in
+      let (within, high, begins) = leads t n sound h low l hangs old in
       let one : 1 ≤ t.link l = omega arith in (
         omega arith,
         ap (height t') f ∙ height_kept (t.link l) one within ∙ high,
-        ap (λ r. t'.key r / 2 ^ h) f ∙ ap (λ k. k / 2 ^ h) (grown.keys (t.link l) one within) ∙ begins,
+        ap (λ r. prefix h (t'.key r)) f ∙ ap (λ k. prefix h k) (grown.keys (t.link l) one within) ∙ begins,
       )
 
   linked : Linked t' (suc n)
@@ -113,13 +113,13 @@ module _ (t t' : Tree) (n key : ℕ) (end : Link) (left : ℕ) (sound : SoundTre
       elim (cases_lt x.link.row (suc n)) [
         | inl low ↦
             let row : x.link.row ≤ n = omega arith in
-            let hangs : Hangs t n x.bits x.prefix x.link = hangs_back x.bits x.prefix x.link row x.hangs in
+            let hangs : Hangs t n x.bits x.low x.link = hangs_back x.bits x.low x.link row x.hangs in
             elim (cases_link x.link end) [
-              | inl e ↦ leads_new x.bits x.prefix x.link e hangs
-              | inr e ↦ leads_old x.bits x.prefix x.link row e hangs x.leads
+              | inl e ↦ leads_new x.bits x.low x.link e hangs
+              | inr e ↦ leads_old x.bits x.low x.link row e hangs x.leads
             ]
         | inr high ↦
-            let up : x.link.row ≤ suc n = hangs_row t' (suc n) x.bits x.prefix x.link x.hangs in
+            let up : x.link.row ≤ suc n = hangs_row t' (suc n) x.bits x.low x.link x.hangs in
             absurd (x.leads (grown.below x.link (omega arith)))
       ]
 

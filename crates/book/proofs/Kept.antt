@@ -8,7 +8,7 @@ use Rattle.std.specs.Option.{ok_or}
 use Rattle.std.proofs.lemmas.Bool.Decides.{nat_tests}
 use Rattle.rows.specs.Layout.{head_at, entry_at, link_at, row_named, book_at}
 use Rattle.rows.specs.declared.Link.{Link}
-use Rattle.book.specs.Tree.{tree_of, key_bits, Spot, at, free, spot_height, height, SoundTree, spot_of}
+use Rattle.book.specs.Tree.{tree_of, key_bits, prefix, Spot, at, free, spot_height, height, SoundTree, spot_of}
 use Rattle.book.specs.Sound.{Sound}
 use Rattle.book.specs.Search.{end_of, led_to, RowOf, search_end}
 use Rattle.book.proofs.Search.{hangs_row, whole_way, way_at, way_free}
@@ -88,7 +88,7 @@ module _ (m : List ℕ) (sound : SoundTree (tree_of m) (head_at m).count) where
     leads_nowhere end e =
         let spot : spot_of (tree_of m) key ≡ free end (spot_height (spot_of (tree_of m) key)) = ends_free (spot_of (tree_of m) key) end e in
         let (hangs, none) = way_free end (spot_height (spot_of (tree_of m) key)) (whole_way (tree_of m) (head_at m).count sound key small) spot in
-        (hangs_row (tree_of m) (head_at m).count (spot_height (spot_of (tree_of m) key)) (key / 2 ^ spot_height (spot_of (tree_of m) key)) end hangs, none)
+        (hangs_row (tree_of m) (head_at m).count (spot_height (spot_of (tree_of m) key)) (prefix (spot_height (spot_of (tree_of m) key)) key) end hangs, none)
 
 -- the row that a link's word names is what the link leads to
 pub row_led_to : (m : List ℕ) (l : Link) → ok_or (row_named (link_at m l)) l ≡ led_to (tree_of m) l

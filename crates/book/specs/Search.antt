@@ -1,9 +1,9 @@
 -- The search for a key in memory, as the code does it.
-use Rattle.std.specs.Prelude.{◌≡◌, true, false, ℕ, ◌/◌, ◌^◌, ◌≤◌, List, Result, Ok, Err, ◌==◌}
+use Rattle.std.specs.Prelude.{◌≡◌, true, false, ℕ, ◌≤◌, List, Result, Ok, Err, ◌==◌}
 use Rattle.parcels.specs.Book.{pick, has, own}
 use Rattle.rows.specs.Layout.{HasRow, head_at, entry_at, book_at}
 use Rattle.rows.specs.declared.Link.{Link}
-use Rattle.book.specs.Tree.{Tree, tree_of, key_bits, Spot, at, free, Hangs, SoundTree, spot_of}
+use Rattle.book.specs.Tree.{Tree, tree_of, key_bits, prefix, Spot, at, free, Hangs, SoundTree, spot_of}
 
 -- where a search ends, without how many bits of the key are left
 abbrev pub end_of : Spot → Result ℕ Link
@@ -28,5 +28,5 @@ RowOf m key (Err end) = (Err end ≡ search_end m key) × (end.row ≤ (head_at 
 pub record Searchable (m : List ℕ) (link : Link) (key height : ℕ) : Type 0 where
   pub enough : HasRow m (head_at m).count
   pub tree : SoundTree (tree_of m) (head_at m).count
-  pub hangs : Hangs (tree_of m) (head_at m).count height (key / 2 ^ height) link
+  pub hangs : Hangs (tree_of m) (head_at m).count height (prefix height key) link
   pub high : height ≤ key_bits

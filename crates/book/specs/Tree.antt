@@ -1,6 +1,7 @@
--- The tree by which a parcel's row is found: a digital search tree over the bits of keys, the highest first. A row
--- stands where the search for its own key ends. Rows are numbered from 1 and never move.
-use Rattle.std.specs.Prelude.{◌≡◌, ℕ, zero, suc, ◌+◌, ◌*◌, ◌/◌, ◌%◌, ◌^◌, ◌<◌, ◌≤◌, Bool, false, ◌≢◌, ◌⊎◌, List, ◌==◌}
+-- The tree by which a parcel's row is found: a digital search tree over the bits of keys, the lowest first, since the keys of
+-- an office differ in their low bits. A row stands where the search for its own key ends. Rows are numbered from 1 and never
+-- move.
+use Rattle.std.specs.Prelude.{◌≡◌, ℕ, zero, suc, ◌+◌, ◌-◌, ◌*◌, ◌/◌, ◌%◌, ◌^◌, ◌<◌, ◌≤◌, Bool, false, ◌≢◌, ◌⊎◌, List, ◌==◌}
 use Rattle.parcels.specs.Book.{pick}
 use Rattle.rows.specs.Layout.{entry_at, link_at}
 use Rattle.rows.specs.declared.Link.{Link}
@@ -26,9 +27,17 @@ key_bits = 32
 abbrev pub turns_right : ℕ → ℕ → Bool
 turns_right bit key = key / 2 ^ bit % 2 == 1
 
--- the link of a row by which the search for a key goes on
+-- the bit of a key at which a search is that has so many left behind it
+abbrev pub bit_at : ℕ → ℕ
+bit_at h = key_bits - suc h
+
+-- the bits of a key by which a search came that has so many left: the lowest ones, as a number
+abbrev pub prefix : ℕ → ℕ → ℕ
+prefix h key = key % 2 ^ (key_bits - h)
+
+-- the link of a row by which the search for a key goes on, to have so many bits left
 abbrev pub link_below : ℕ → ℕ → ℕ → Link
-link_below row bit key = record { row = row; right = turns_right bit key }
+link_below row h key = record { row = row; right = turns_right (bit_at h) key }
 
 -- where a search ends, and how many bits of the key are left there: at a row, or at a link that leads nowhere
 pub data Spot : Type 0 where
@@ -57,25 +66,25 @@ spot_of t key = seek t key_bits root key
 unfoldable pub height : Tree → ℕ → ℕ
 height t row = spot_height (spot_of t (t.key row))
 
--- a link that can be come to with so many bits left, by keys that begin with this prefix: the root, or a link of one
--- of the first n rows
+-- a link that can be come to with so many bits left, by keys whose other bits are these: the root, or a link of one of the
+-- first n rows
 abbrev pub Hangs : Tree → ℕ → ℕ → ℕ → Link → Type 0
-Hangs t n h prefix l =
-    ((l ≡ root) × (h ≡ key_bits) × (prefix ≡ 0))
-    ⊎ ((1 ≤ l.row) × (l.row ≤ n) × (height t l.row ≡ suc h) × (prefix ≡ 2 * (t.key l.row / 2 ^ suc h) + pick l.right 1 0))
+Hangs t n h low l =
+    ((l ≡ root) × (h ≡ key_bits) × (low ≡ 0))
+    ⊎ ((1 ≤ l.row) × (l.row ≤ n) × (height t l.row ≡ suc h) × (low ≡ pick l.right 1 0 * 2 ^ bit_at h + prefix (suc h) (t.key l.row)))
 
 -- such a link, where it leads to a row
 pub record Hanging (t : Tree) (n : ℕ) : Type 0 where
   pub bits : ℕ
-  pub prefix : ℕ
+  pub low : ℕ
   pub link : Link
-  pub hangs : Hangs t n bits prefix link
+  pub hangs : Hangs t n bits low link
   pub leads : t.link link ≢ 0
 
--- it leads to one of the rows, with as many bits left there, whose key begins with the prefix
+-- it leads to one of the rows, with as many bits left there, whose key has the same low bits
 abbrev pub Linked : Tree → ℕ → Type 0
 Linked t n =
-    (x : Hanging t n) → (t.link x.link ≤ n) × (height t (t.link x.link) ≡ x.bits) × (t.key (t.link x.link) / 2 ^ x.bits ≡ x.prefix)
+    (x : Hanging t n) → (t.link x.link ≤ n) × (height t (t.link x.link) ≡ x.bits) × (prefix x.bits (t.key (t.link x.link)) ≡ x.low)
 
 -- one of the first n rows
 pub record Row (n : ℕ) : Type 0 where

@@ -1,5 +1,5 @@
 // The tree by which a parcel's row is found. It stands in the rows: at each row the next bit of the key, from the
-// highest on, says by which of its two links to go on.
+// lowest on, says by which of its two links to go on. Keys of an office differ in their low bits, so few rows stand above one.
 ghost use Rattle.std.specs.Prelude.{◌≡◌, ℕ, ◌<◌, ◌≤◌, true, length, Ok, Err};
 ghost use Rattle.parcels.specs.Numbers.{most_parcels};
 ghost use Rattle.parcels.specs.Book.{has_room};
@@ -59,9 +59,8 @@ pub(crate) fn seek(memory: &[u32], link: Link, key: u32, height: u32) -> Link
     if height == 0 || read_key(memory, row) == key {
         return link;
     }
-    let bit = height - 1;
-    let right = turns_right(bit, key);
-    seek(memory, Link { row, right }, key, bit)
+    let right = turns_right(u32::BITS - height, key);
+    seek(memory, Link { row, right }, key, height - 1)
 }
 
 // The head with one parcel more, of this key.

@@ -53,7 +53,7 @@ fn check_told(rt: &impl Abort, book: &mut Book) {
     check_sums(rt, book, 65_536_000_000, 65_536_000_000);
 }
 
-// From the highest key down to 0, which comes to stand below 32 rows: in no tree does a row stand deeper.
+// From the highest key down to 0, which comes to stand below 19 rows.
 fn fill(rt: &impl Abort, book: &mut Book) {
     for n in (0..=u16::MAX).rev() {
         check_put(rt, book, entry(key(n)));

@@ -111,12 +111,13 @@ fn check_turned_away(rt: &impl Abort, before: Lent, call: Call, refused: (u8, u6
 #[test]
 fn back_at_the_limit(rt: HostRuntime) {
     let before = busy(&rt);
-    // row 3 hangs below it
-    before.check_row(&rt, 2, [65_537, 1, 0, 1, 0, 0, 7, 3, 0]);
+    before.check_row(&rt, 2, [65_537, 1, 0, 1, 0, 0, 7, 0, 0]);
     for (slip, step) in [(Slip { step: 2, ..BACK }, 3), (BACK, 4)] {
         let mut lent = before;
         lent.check(&rt, take_in(slip), Answer::Number(0));
-        lent.check_row(&rt, 2, [65_537, step, 0, 2, 1, 0, 7, 3, 0]);
+        lent.check_row(&rt, 2, [65_537, step, 0, 2, 1, 0, 7, 0, 0]);
+        // below it hang rows 3 and 2
+        lent.check_row(&rt, 1, [65_536, 0, 0, 0, 1, 2, 50, 3, 2]);
     }
 }
 

@@ -1,6 +1,5 @@
-use Rattle.std.proofs.Common.{◌≡◌, ap, ◌∙◌}
+use Rattle.std.proofs.Common.{ap, ◌∙◌}
 use Rattle.std.specs.Option.{ok_or}
-use Rattle.rows.specs.declared.Link.{Link}
 use Rattle.book.proofs.Kept.{row_of, row_led_to}
 use Rattle.book.proofs.Book.row_of.Goals as goal
 

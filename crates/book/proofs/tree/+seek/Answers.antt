@@ -1,8 +1,8 @@
-use Rattle.std.proofs.Common.{◌≡◌, ℕ, suc, ◌-◌, ◌/◌, ◌^◌, ◌≤◌, ◌≢◌, List, length, Some, None, Ok, sym, ap, ◌∙◌, arith}
+use Rattle.std.proofs.Common.{◌≡◌, ℕ, suc, ◌-◌, ◌≤◌, ◌≢◌, List, length, Some, None, sym, ap, ◌∙◌, arith}
 use Rattle.std.proofs.lemmas.Bool.Decides.{nat_tests}
 use Rattle.rows.specs.Layout.{words_for, head_at, entry_at, link_at, row_named}
 use Rattle.rows.specs.declared.Link.{Link}
-use Rattle.book.specs.Tree.{tree_of, link_below, seek}
+use Rattle.book.specs.Tree.{tree_of, key_bits, turns_right, prefix, link_below, seek}
 use Rattle.book.specs.Search.{end_of, led_to, Searchable}
 use Rattle.book.proofs.Search.{seek_free, seek_here, seek_last, seek_on, led_free, led_on, hangs_row, leads, hangs_below}
 use Rattle.book.proofs.tree.+seek.Goals as goal
@@ -25,7 +25,7 @@ module _ (m : List ℕ) (l : Link) (key row : ℕ) (is : Some row ≡ row_named 
   -- whose words are in memory
   row_room : (h : ℕ) → Searchable m l key h → words_for row ≤ length m
   row_room h s =
-      let (low, _, _) = leads (tree_of m) (head_at m).count s.tree h (key / 2 ^ h) l s.hangs leads_on in
+      let (low, _, _) = leads (tree_of m) (head_at m).count s.tree h (prefix h key) l s.hangs leads_on in
       let enough = s.enough in
       let e = there in
       omega arith
@@ -36,7 +36,7 @@ module _ (m : List ℕ) (l : Link) (key row : ℕ) (is : Some row ≡ row_named 
       rw there (record {
         enough = s.enough;
         tree = s.tree;
-        hangs = hangs_below (tree_of m) (head_at m).count s.tree h key l s.hangs leads_on;
+        hangs = hangs_below (tree_of m) (head_at m).count s.tree h key l s.high s.hangs leads_on;
         high = let high = s.high in omega arith;
       })
 
@@ -52,7 +52,7 @@ module _ (m : List ℕ) (l : Link) (key row : ℕ) (is : Some row ≡ row_named 
 -- the link's own row is in memory
 held : (m : List ℕ) (l : Link) (key h : ℕ) → Searchable m l key h → words_for l.row ≤ length m
 held m l key h s =
-    let low : l.row ≤ (head_at m).count = hangs_row (tree_of m) (head_at m).count h (key / 2 ^ h) l s.hangs in
+    let low : l.row ≤ (head_at m).count = hangs_row (tree_of m) (head_at m).count h (prefix h key) l s.hangs in
     let enough = s.enough in
     omega arith
 
@@ -83,7 +83,7 @@ pub seek-requires : goal.seek-requires
 seek-requires t c =
     let one : suc (c.args.height - 1) ≡ c.args.height = let h = c.if-height-eq0.false in omega arith in (
       omega arith,
-      rw c.turns_right-right.ensures (below c.args.memory.now c.args.link c.args.key c.in-Some.row c.in-Some.ensures (c.args.height - 1) (rw one c.requires)),
+      rw (c.turns_right-right.ensures, ap (λ h. turns_right (key_bits - h) c.args.key) (sym one)) (below c.args.memory.now c.args.link c.args.key c.in-Some.row c.in-Some.ensures (c.args.height - 1) (rw one c.requires)),
     )
 
 pub returns-clause-within : goal.returns-clause-within
@@ -93,6 +93,6 @@ pub returns-clause-value : goal.returns-clause-value
 returns-clause-value t c =
     let one : suc (c.args.height - 1) ≡ c.args.height = let h = c.if-height-eq0.false in omega arith in
     c.seek.ensures.value
-    ∙ ap (λ t. end_of (seek (tree_of c.args.memory.now) (c.args.height - 1) (record { row = c.in-Some.row; right = t }) c.args.key)) c.turns_right-right.ensures
+    ∙ ap (λ t. end_of (seek (tree_of c.args.memory.now) (c.args.height - 1) (record { row = c.in-Some.row; right = t }) c.args.key)) (c.turns_right-right.ensures ∙ ap (λ h. turns_right (key_bits - h) c.args.key) (sym one))
     ∙ on c.args.memory.now c.args.link c.args.key c.in-Some.row c.in-Some.ensures (c.args.height - 1) (λ k. c.if-read_key-key.false (c.read_key.ensures ∙ k))
     ∙ ap (λ h. end_of (seek (tree_of c.args.memory.now) h c.args.link c.args.key)) one
