@@ -2,6 +2,7 @@ pub mod Opening
 pub mod Opened
 pub mod Tree
 pub mod Search
+pub mod Places
 pub mod Sound
 pub mod Ready
 pub mod Keeping

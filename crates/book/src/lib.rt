@@ -9,6 +9,7 @@ ghost use Rattle.parcels.specs.Calls.{new_key};
 ghost use Rattle.rows.specs.Layout.{book_at};
 ghost use Rattle.tally.specs.Told.{next_from, ShelfOf, SumsOf};
 ghost use Rattle.book.specs.Search.{RowOf};
+ghost use Rattle.book.specs.Places.{IsPlace};
 ghost use Rattle.book.specs.Sound.{Sound};
 ghost use Rattle.book.specs.Ready.{Ready};
 ghost use Rattle.book.specs.Keys.{next_key, NewKey};
@@ -28,6 +29,14 @@ mod tree;
 // The book has as many parcels as it was opened for.
 #[derive(Clone, Copy, Debug, PartialEq, Eq)]
 pub struct Full;
+
+// Where a book has a parcel, or would have it. A search for the key gives it, to look there and then to write there.
+#[derive(Clone, Copy)]
+pub struct Place {
+    key: u32,
+    // the row of the key, or the link by which its row would hang
+    row: Result<u32, Link>,
+}
 
 // The memory, and what the office was opened with. The invariant: the memory is sound, and no step in the book goes further
 // than steps go.
@@ -113,13 +122,30 @@ impl<'a> Book<'a> {
         read_link(self.memory, end).ok_or(end)
     }
 
+    // Where it has a parcel, or would have it.
+    pub fn place_of(&self, key: u32) -> Place
+        ensures key { result.key ≡ key }
+        ensures place { IsPlace self.now.memory.now result }
+    {
+        let row = self.row_of(key);
+        Place { key, row }
+    }
+
+    // What it has there.
+    pub fn entry_at(&self, place: Place) -> Option<Entry>
+        requires { IsPlace self.now.memory.now place }
+        ensures { result ≡ looked_up (book_in self.now) place.key }
+    {
+        let row = place.row.ok()?;
+        Some(read_entry(self.memory, row))
+    }
+
     // What it has of a parcel.
     pub fn find(&self, key: u32) -> Option<Entry>
         ensures value { result ≡ looked_up (book_in self.now) key }
         ensures once { each_once (book_in self.now) ≡ true }
     {
-        let row = self.row_of(key).ok()?;
-        Some(read_entry(self.memory, row))
+        self.entry_at(self.place_of(key))
     }
 
     // What is here: how many parcels, and the first of them from a key on.
@@ -138,10 +164,13 @@ impl<'a> Book<'a> {
         Sums::of(self.memory)
     }
 
-    // Puts in an entry: in place of the one with its key, or, where there is none and room for one more, behind the
-    // others. Two words hold any step; but that none goes further than steps go is kept here, for whoever makes the next.
+    // Puts in an entry at the place of its key: instead of the one that is there, or, where there is none and room for one
+    // more, behind the others. Two words hold any step; but that none goes further than steps go is kept here, for whoever
+    // makes the next.
     #[tactic(auto, using(crate::proofs::Kept::steps_kept))]
-    pub fn put(&mut self, entry: Entry) -> Result<(), Full>
+    pub fn put_at(&mut self, place: Place, entry: Entry) -> Result<(), Full>
+        requires place { IsPlace self.old.memory.now place }
+        requires key { place.key ≡ entry.key }
         requires fits { StepFits entry }
         ensures value { is_ok result ≡ can_put self.old.opening.parcels (book_in self.old) entry }
         ensures after { book_in self.new ≡ put_in self.old.opening.parcels (book_in self.old) entry }
@@ -150,7 +179,7 @@ impl<'a> Book<'a> {
         ensures same_opening { self.new.opening ≡ self.old.opening }
         ensures same_reference { self.new.memory.ghost_name ≡ self.old.memory.ghost_name }
     {
-        match self.row_of(entry.key) {
+        match place.row {
             Ok(row) => change(self.memory, row, entry),
             Err(end) => {
                 if !self.has_room() {

@@ -46,8 +46,8 @@ fn turns_right(bit: u32, key: u32) -> bool
 }
 
 // The search from a link on, with so many bits of the key left: the link at which it ends, which leads to the key's row, or
-// nowhere, where its row would hang. With no bits left, the row has this key. By recursion over a height that falls, which is
-// the form in which this project goes through a book; a link is small enough that the compiler makes a loop of it.
+// nowhere, where its row would hang. With no bits left, the row has this key. By recursion over a height that falls; a link
+// is small enough that the compiler makes a loop of it.
 pub(crate) fn seek(memory: &[u32], link: Link, key: u32, height: u32) -> Link
     requires { Searchable memory.now link key height }
     ensures value { led_to (tree_of memory.now) result ≡ end_of (seek (tree_of memory.now) height link key) }

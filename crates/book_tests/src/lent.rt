@@ -64,7 +64,8 @@ pub(crate) fn check_put(rt: &impl Abort, book: &mut Book, entry: Entry)
     ensures same_opening { book.new.opening ≡ book.old.opening }
     ensures same_reference { book.new.memory.ghost_name ≡ book.old.memory.ghost_name }
 {
-    assert_eq!(rt; book.put(entry), Ok(()));
+    let place = book.place_of(entry.key);
+    assert_eq!(rt; book.put_at(place, entry), Ok(()));
 }
 
 // The book has this of the parcel.
@@ -79,7 +80,9 @@ pub(crate) fn check_has_not(rt: &impl Abort, book: &Book, key: u32) {
 
 // The parcel can't be put in, and is not there.
 pub(crate) fn check_full(rt: &impl Abort, book: &mut Book, key: u32) {
-    assert_eq!(rt; book.put(entry(key)), Err(Full));
+    let entry = entry(key);
+    let place = book.place_of(entry.key);
+    assert_eq!(rt; book.put_at(place, entry), Err(Full));
     check_has_not(rt, book, key);
 }
 

@@ -22,6 +22,24 @@ fn keys_at_the_ends(rt: HostRuntime) {
     check_counts(&rt, &book, 4, 2, Some(2));
 }
 
+// The keys of one bit, from the lowest bit on, and then 0, which comes to stand below these 32: in no tree does a row stand
+// deeper.
+#[test]
+fn keys_of_one_bit(rt: HostRuntime) {
+    let mut memory = [LENT; 816];
+    let mut book = empty_book(&rt, opened(&rt, 16, 0, 33), &mut memory);
+    let mut key = 1u32;
+    for _ in 0..32 {
+        check_put(&rt, &mut book, entry(key));
+        key = key.wrapping_mul(2);
+    }
+    // no bit is left
+    check_has_not(&rt, &book, key);
+    check_put(&rt, &mut book, entry(key));
+    check_has(&rt, &book, entry(0));
+    check_full(&rt, &mut book, 3);
+}
+
 // After each entry: how many parcels there are, how many this office accepted, and the key of its next.
 #[test]
 fn next_keys(rt: HostRuntime) {

@@ -2,10 +2,11 @@
 // it. Which reason goes with it, and which comes first, is for the calls.
 ghost use Rattle.std.specs.Prelude.{◌≡◌};
 ghost use Rattle.book.specs.View.{book_in};
+ghost use Rattle.book.specs.Places.{IsPlace};
 ghost use Rattle.moves.specs.Checks.{known_office, this_office, other_office, small_amount, slip_in_range, parcel_here, parcel_sent, for_here, works_here};
 
 use crate::own;
-use book::Book;
+use book::{Book, Place};
 use parcels::{Entry, Kind, Slip};
 
 // The largest amount to be collected for a parcel.
@@ -54,10 +55,11 @@ pub(crate) fn slip_in_range(book: &Book, slip: Slip) -> Option<Slip>
 }
 
 // What the book has of a parcel that is here.
-pub(crate) fn parcel_here(book: &Book, key: u32) -> Option<Entry>
-    ensures { result ≡ parcel_here (book_in book.now) key }
+pub(crate) fn parcel_here(book: &Book, place: Place) -> Option<Entry>
+    requires { IsPlace book.now.memory.now place }
+    ensures { result ≡ parcel_here (book_in book.now) place.key }
 {
-    let entry = book.find(key)?;
+    let entry = book.entry_at(place)?;
     entry.kind.leaves_it_here().then_some(entry)
 }
 
@@ -79,11 +81,13 @@ pub(crate) fn for_here(book: &Book, entry: Entry) -> Option<Entry>
 
 // A slip that is for this office, and newer than what is known here of its parcel by own calls: whether the parcel was
 // paid out here.
-pub(crate) fn works_here(book: &Book, slip: Slip) -> Option<bool>
+pub(crate) fn works_here(book: &Book, place: Place, slip: Slip) -> Option<bool>
+    requires place { IsPlace book.now.memory.now place }
+    requires key { place.key ≡ slip.key }
     ensures { result ≡ works_here book.now.opening.own (book_in book.now) slip }
 {
     this_office(book, slip.to)?;
-    match book.find(slip.key) {
+    match book.entry_at(place) {
         None => Some(false),
         Some(entry) => (entry.step < slip.step).then_some(entry.paid),
     }

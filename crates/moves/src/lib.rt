@@ -54,7 +54,7 @@ pub fn accept(book: &mut Book, dest: u32, amount: u32) -> Result<u32, Refusal>
     let Some(key) = book.next_key() else {
         return Err(Reason::OverLimit.into());
     };
-    book.put(Entry {
+    let accepted = Entry {
         key,
         step: 0,
         kind: Kind::Accepted,
@@ -62,8 +62,9 @@ pub fn accept(book: &mut Book, dest: u32, amount: u32) -> Result<u32, Refusal>
         dest,
         amount,
         paid: false,
-    })
-    .unwrap();
+    };
+    let place = book.place_of(key);
+    book.put_at(place, accepted).unwrap();
     Ok(key)
 }
 
@@ -79,7 +80,8 @@ pub fn send(book: &mut Book, key: u32, to: u32) -> Result<Slip, Refusal>
             place: 1,
         });
     };
-    let Some(entry) = parcel_here(book, key) else {
+    let place = book.place_of(key);
+    let Some(entry) = parcel_here(book, place) else {
         return Err(Reason::NotHere.into());
     };
     let sent = Entry {
@@ -88,7 +90,7 @@ pub fn send(book: &mut Book, key: u32, to: u32) -> Result<Slip, Refusal>
         to,
         ..entry
     };
-    book.put(sent).unwrap();
+    book.put_at(place, sent).unwrap();
     Ok(slip_of(own(book), sent))
 }
 
@@ -113,10 +115,11 @@ pub fn take_in(book: &mut Book, slip: Slip) -> Result<u32, Refusal>
     let Some(slip) = slip_in_range(book, slip) else {
         return Err(Reason::OutOfRange.into());
     };
-    let Some(paid) = works_here(book, slip) else {
+    let place = book.place_of(slip.key);
+    let Some(paid) = works_here(book, place, slip) else {
         return Err(Reason::WrongSlip.into());
     };
-    let Ok(()) = book.put(Entry {
+    let come_in = Entry {
         key: slip.key,
         step: slip.step + 1,
         kind: Kind::ComeIn,
@@ -124,7 +127,8 @@ pub fn take_in(book: &mut Book, slip: Slip) -> Result<u32, Refusal>
         dest: slip.dest,
         amount: slip.amount,
         paid,
-    }) else {
+    };
+    let Ok(()) = book.put_at(place, come_in) else {
         return Err(Reason::OverLimit.into());
     };
     Ok(slip.dest)
@@ -136,18 +140,19 @@ pub fn hand_out(book: &mut Book, key: u32) -> Result<u32, Refusal>
     ensures same_opening { book.new.opening ≡ book.old.opening }
     ensures same_reference { book.new.memory.ghost_name ≡ book.old.memory.ghost_name }
 {
-    let Some(entry) = parcel_here(book, key) else {
+    let place = book.place_of(key);
+    let Some(entry) = parcel_here(book, place) else {
         return Err(Reason::NotHere.into());
     };
     let Some(entry) = for_here(book, entry) else {
         return Err(Reason::OtherOffice.into());
     };
-    book.put(Entry {
+    let handed_out = Entry {
         step: entry.step + 1,
         kind: Kind::HandedOut,
         to: own(book),
         ..entry
-    })
-    .unwrap();
+    };
+    book.put_at(place, handed_out).unwrap();
     Ok(entry.amount)
 }
