@@ -1,5 +1,6 @@
 -- What offices have in memory, all together, and what they were opened with.
 use Rattle.std.specs.Prelude.{◌≡◌, ℕ, ◌<◌, true, false, List, [], length, map, Ok, Err, Result, vec_items, slice_index_or}
+use Rattle.rows.specs.Layout.{words_for}
 use Rattle.book.specs.Opening.{in_range}
 use Rattle.book.specs.declared.opening.Opening.{Opening}
 use Rattle.moves.specs.Stage.{stage_limits}
@@ -25,9 +26,9 @@ IsOpened x offices own parcels = (x.offices ≡ offices) × (x.own ≡ own) × (
 abbrev pub Numbered : List Station → ℕ → ℕ → Type 0
 Numbered xs offices parcels = (k : ℕ) (d : Station) → k < length xs → IsOpened (slice_index_or xs k d).opening offices k parcels
 
--- what an office opens with: the words that its limits ask for, with an empty book; else why it can't be opened
+-- what an office opens with: as many words as its limits ask for, with an empty book; else why it can't be opened
 abbrev pub OpensStation : ℕ → ℕ → ℕ → Result Station CannotHappen → Type 0
-OpensStation offices own parcels (Ok x) = (in_range offices own parcels ≡ true) × IsOpened x.opening offices own parcels × Begun (stage_limits offices parcels) own (words_of x)
+OpensStation offices own parcels (Ok x) = (in_range offices own parcels ≡ true) × IsOpened x.opening offices own parcels × Begun (stage_limits offices parcels) own (words_of x) × (length (words_of x) ≡ words_for parcels)
 OpensStation offices own parcels (Err BadLimits) = in_range offices own parcels ≡ false
 OpensStation offices own parcels (Err NoMemory) = in_range offices own parcels ≡ true
 OpensStation offices own parcels (Err NoOffice) = ⊥
