@@ -1,5 +1,7 @@
 // Letters in three envelopes: which bytes are written, and what is read from them.
-use crate::lent::LENT_BYTE;
+ghost use Rattle.std.specs.Prelude.{◌≤◌};
+
+use crate::lent::{LENT_BYTE, check_lent};
 use letters::{Envelope, write_letter};
 use std::process::Abort;
 
@@ -18,13 +20,18 @@ fn check_written(rt: &impl Abort, text: &[u8], length: &[u8]) {
     let mut lent = [LENT_BYTE; BYTES];
     assert!(rt; write_letter(0x0403_0201, text, 1, &mut lent).is_some());
     let (first, second) = lent.split_at(80);
-    assert_eq!(rt; first, [LENT_BYTE; 80].as_slice());
+    check_lent(rt, first);
     check_bytes(
         rt,
         second,
         &[b"\x01\x02\x03\x04", length, &[LENT_BYTE; 8], text],
     );
-    let Some(envelope) = Envelope::nth(&lent, 1) else {
+    check_read(rt, &lent, text);
+}
+
+// The letter is read from the second envelope.
+fn check_read(rt: &impl Abort, lent: &[u8], text: &[u8]) {
+    let Some(envelope) = Envelope::nth(lent, 1) else {
         panic!(rt; "no envelope");
     };
     assert_eq!(rt; envelope.office(), 0x0403_0201);
@@ -40,19 +47,24 @@ fn check_bytes(rt: &impl Abort, bytes: &[u8], parts: &[&[u8]]) {
         };
         rest = behind;
     }
-    for byte in rest {
-        assert_eq!(rt; *byte, LENT_BYTE, "behind {parts:?}");
-    }
+    check_lent(rt, rest);
 }
 
 #[test]
 fn refused(rt: HostRuntime) {
+    check_refused::<BYTES>(&rt, &[9; 65], 1);
+    check_refused::<BYTES>(&rt, b"\x05", 3);
+    check_refused::<239>(&rt, b"\x05", 2);
+    assert!(rt; Envelope::nth(&[LENT_BYTE; BYTES], 3).is_none());
+}
+
+// The letter can't be put into this envelope of so many lent bytes, and each of them stays.
+fn check_refused<const BYTES: usize>(rt: &impl Abort, text: &[u8], nth: usize)
+    requires few { BYTES ≤ 245 }
+{
     let mut lent = [LENT_BYTE; BYTES];
-    assert!(rt; write_letter(1, &[9; 65], 1, &mut lent).is_none());
-    assert!(rt; write_letter(1, b"\x05", 3, &mut lent).is_none());
-    assert!(rt; write_letter(1, b"\x05", 2, &mut lent[..239]).is_none());
-    assert!(rt; lent == [LENT_BYTE; BYTES]);
-    assert!(rt; Envelope::nth(&lent, 3).is_none());
+    assert!(rt; write_letter(1, text, nth, &mut lent).is_none());
+    check_lent(rt, &lent);
 }
 
 // A head that says that its letter is longer than there is room.

@@ -55,16 +55,8 @@ impl Lent {
             panic!(rt; "no answer to {row:?}");
         };
         assert_eq!(rt; replied.letters, 0);
-        assert!(rt; letters == [LENT_BYTE; LETTER_BYTES + 10]);
-        let len = replied.answer;
-        assert!(rt; len <= 64);
-        for byte in &out[len..] {
-            assert_eq!(rt; *byte, LENT_BYTE);
-        }
-        let Some(answer) = read_answer(&out[..len]) else {
-            panic!(rt; "answer {out:?} to {row:?}");
-        };
-        answer
+        check_lent(rt, &letters);
+        written(rt, &out, replied.answer)
     }
 
     // What it answers to a call.
@@ -99,6 +91,23 @@ impl Lent {
     }
 }
 
+// The answer that was written into so many of these lent bytes. Each one behind it stayed.
+fn written(rt: &impl Abort, out: &[u8; 70], len: usize) -> Answer {
+    assert!(rt; len <= 64);
+    check_lent(rt, &out[len..]);
+    let Some(answer) = read_answer(&out[..len]) else {
+        panic!(rt; "answer {out:?}");
+    };
+    answer
+}
+
+// Each byte is as it was lent.
+pub(crate) fn check_lent(rt: &impl Abort, bytes: &[u8]) {
+    for byte in bytes {
+        assert_eq!(rt; *byte, LENT_BYTE);
+    }
+}
+
 // The office answers a row of bytes by these, and sends no letter.
 pub(crate) fn check_answer(rt: &impl Abort, session: &mut Session, row: &[u8], answer: &[u8])
     ensures same_opening { session.new.opening ≡ session.old.opening }
@@ -111,7 +120,6 @@ pub(crate) fn check_answer(rt: &impl Abort, session: &mut Session, row: &[u8], a
         letters: 0,
     };
     assert_eq!(rt; session.call(row, &mut out, &mut letters), Some(replied));
-    assert!(rt; letters == [LENT_BYTE; LETTER_BYTES]);
-    assert!(rt; answer.len() <= 64);
-    assert_eq!(rt; &out[..answer.len()], answer);
+    check_lent(rt, &letters);
+    assert_eq!(rt; out.get(..answer.len()), Some(answer));
 }
