@@ -3,9 +3,9 @@
 #![tactic(auto)]
 
 ghost use Rattle.std.specs.Prelude.{Some};
-ghost use Rattle.answers.specs.Texts.{kind_text, located_text, answer_text};
+ghost use Rattle.answers.specs.Texts.{kind_text, located_text, slip_text, answer_text};
 
-use parcels::{Answer, Kind, Step};
+use parcels::{Answer, Kind, Slip, Step};
 use std::fmt;
 
 // An answer, to be written.
@@ -26,13 +26,7 @@ impl fmt::Display for AnswerText {
                 )
             }
             Answer::Number(n) => write!(f, "{n}"),
-            Answer::Given(slip) => {
-                write!(
-                    f,
-                    "slip {}: {} {} {} {} {}",
-                    slip.key, slip.step, slip.from, slip.to, slip.dest, slip.amount
-                )
-            }
+            Answer::Given(slip) => write!(f, "slip {}", SlipText(slip)),
             Answer::At(step) => {
                 write!(
                     f,
@@ -45,6 +39,23 @@ impl fmt::Display for AnswerText {
             Answer::NothingHeard => write!(f, "nothing heard"),
             Answer::Two(a, b) => write!(f, "{a} {b}"),
         }
+    }
+}
+
+// A slip, to be written from its key on.
+#[derive(Clone, Copy)]
+struct SlipText(Slip);
+
+impl fmt::Display for SlipText {
+    ghost output = { λ x. Some (slip_text x.0) };
+
+    fn fmt<W: fmt::Write>(&self, f: &mut fmt::Formatter<W>) -> fmt::Result {
+        let slip = self.0;
+        write!(
+            f,
+            "{}: {} {} {} {} {}",
+            slip.key, slip.step, slip.from, slip.to, slip.dest, slip.amount
+        )
     }
 }
 
