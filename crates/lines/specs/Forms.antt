@@ -11,14 +11,22 @@ use Rattle.lines.specs.declared.fault.Fault.{Fault}
 use Rattle.lines.specs.declared.fault.Fault.TheVariants.{NoMemory}
 use Rattle.parcels.specs.declared.Call.{Call as ACall}
 use Rattle.parcels.specs.declared.Call.TheVariants.{Accept, Send, SlipAgain, TakeIn, HandOut, Pay, WhereIs, Here, Sums}
+use Rattle.parcels.specs.declared.Slip.{Slip}
+
+-- what a slip says behind its key
+abbrev pub way_tokens : Slip → List Token
+way_tokens s = number s.step ∷ number s.from ∷ number s.to ∷ number s.dest ∷ number s.amount ∷ []
+
+-- a slip
+abbrev pub slip_tokens : Slip → List Token
+slip_tokens s = number s.key ∷ mark (codes ":") ∷ way_tokens s
 
 -- a call
 abbrev pub call_tokens : ACall → List Token
 call_tokens (Accept dest amount) = word (codes "accept") ∷ word (codes "for") ∷ number dest ∷ mark (codes ",") ∷ number amount ∷ []
 call_tokens (Send key to) = word (codes "send") ∷ number key ∷ word (codes "to") ∷ number to ∷ []
 call_tokens (SlipAgain key) = word (codes "slip") ∷ number key ∷ []
-call_tokens (TakeIn s) =
-    word (codes "take") ∷ word (codes "in") ∷ number s.key ∷ mark (codes ":") ∷ number s.step ∷ number s.from ∷ number s.to ∷ number s.dest ∷ number s.amount ∷ []
+call_tokens (TakeIn s) = word (codes "take") ∷ word (codes "in") ∷ slip_tokens s
 call_tokens (HandOut key) = word (codes "hand") ∷ word (codes "out") ∷ number key ∷ []
 call_tokens (Pay key) = word (codes "pay") ∷ number key ∷ []
 call_tokens (WhereIs key) = word (codes "where") ∷ word (codes "is") ∷ number key ∷ []

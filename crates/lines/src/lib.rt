@@ -3,7 +3,7 @@
 
 ghost use Rattle.std.specs.Prelude.{◌≡◌, ◌≢◌, ◌↔◌, ◌⊎◌, ℕ, IsTrue, IfOk, IfErr, IfSome, IfNone, Ok, List, [], drop, codes};
 ghost use Rattle.lines.specs.Tokens.{is_blank_line, Stand};
-ghost use Rattle.lines.specs.Forms.{name_word, deed_word, call_tokens, line_tokens, GoOn, GoOnAt, Says, IsNoLine, OnlyLine, IsRead, Reads};
+ghost use Rattle.lines.specs.Forms.{name_word, deed_word, way_tokens, slip_tokens, call_tokens, line_tokens, GoOn, GoOnAt, Says, IsNoLine, OnlyLine, IsRead, Reads};
 ghost use Rattle.lines.specs.Texts.{ReadsWritten};
 ghost use Rattle.lines.specs.declared.CallName.{CallName};
 ghost use Rattle.lines.specs.declared.Deed.{Deed};
@@ -280,21 +280,37 @@ fn read_send(reader: &mut Reader) -> Result<Call, Fault>
     Ok(Call::Send { key, to })
 }
 
-// take in 0: 1 0 1 2 50, where the numbers are key, step, from, to, dest and amount
+// take in 0: 1 0 1 2 50
 fn read_take_in(reader: &mut Reader) -> Result<Call, Fault>
     ensures value { IfOk result (λ call. GoOn (codes "take") (call_tokens call) reader.old reader.new) }
     ensures reads { (slip : Slip) → GoOn (codes "take") (call_tokens (TakeIn slip)) reader.old [] → result ≡ Ok (TakeIn slip) }
 {
     reader.expect("in")?;
+    let slip = read_slip(reader)?;
+    Ok(Call::TakeIn { slip })
+}
+
+// 0: 1 0 1 2 50, a slip from its key on
+fn read_slip(reader: &mut Reader) -> Result<Slip, Fault>
+    ensures value { IfOk result (λ slip. Stand (slip_tokens slip) reader.old reader.new) }
+    ensures reads { (slip : Slip) → Stand (slip_tokens slip) reader.old [] → result ≡ Ok slip }
+{
     let key = reader.number()?;
     reader.expect_mark(":")?;
-    let slip = Slip {
+    read_way(key, reader)
+}
+
+// The slip with this key, from what stands behind ':': step, from, to, dest and amount.
+fn read_way(key: u32, reader: &mut Reader) -> Result<Slip, Fault>
+    ensures value { IfOk result (λ slip. (slip.key ≡ key) × Stand (way_tokens slip) reader.old reader.new) }
+    ensures reads { (slip : Slip) → slip.key ≡ key → Stand (way_tokens slip) reader.old [] → result ≡ Ok slip }
+{
+    Ok(Slip {
         key,
         step: u64::from(reader.number()?),
         from: reader.number()?,
         to: reader.number()?,
         dest: reader.number()?,
         amount: reader.number()?,
-    };
-    Ok(Call::TakeIn { slip })
+    })
 }
