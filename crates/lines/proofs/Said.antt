@@ -1,9 +1,12 @@
 -- What a call can only be, by its first word and by where its numbers stand.
-use Rattle.std.proofs.Common.{◌≡◌, ℕ, ◌+◌, ◌*◌, List, [], ◌∷◌, ◌∙◌, drop, fold, codes, cond, refl, sym, ap, subst, arith, ◌==◌, Bool}
+use Rattle.std.proofs.Common.{◌≡◌, ◌≢◌, ℕ, ◌+◌, ◌*◌, List, [], ◌∷◌, ◌∙◌, drop, fold, codes, cond, refl, sym, ap, subst, arith, ◌==◌, Bool, false}
+use Rattle.std.proofs.lemmas.Bool.{false≢true}
 use Rattle.std.specs.Char.{is_ascii_alphabetic, is_ascii_digit}
 use Rattle.std.specs.List.{take_while}
-use Rattle.lines.specs.Tokens.{without_blanks, behind, first_number, Token, word, number, byte, mark, Stand}
-use Rattle.lines.specs.Forms.{call_tokens, line_tokens, name_word, deed_word, GoOn, GoOnAt}
+use Rattle.lines.specs.Tokens.{first_passes, without_blanks, behind, first_number, Token, word, number, byte, mark, Stand}
+use Rattle.lines.specs.Forms.{call_tokens, line_tokens, beginning_word, name_word, deed_word, GoOn, GoOnAt}
+use Rattle.lines.specs.declared.Beginning.{Beginning}
+use Rattle.lines.specs.declared.Beginning.TheVariants.{At as BAt, All as BAll, Letter as BLetter}
 use Rattle.lines.specs.declared.CallName.{CallName}
 use Rattle.lines.specs.declared.CallName.TheVariants.{Accept as NAccept, Send as NSend, Slip as NSlip, Take as NTake, Hand as NHand, Pay as NPay, Where as NWhere, Here as NHere, Sums as NSums}
 use Rattle.lines.specs.declared.Deed.{Deed}
@@ -136,6 +139,30 @@ tick_no_name NPay e = absurd (omega (arith, ap first e))
 tick_no_name NWhere e = absurd (omega (arith, ap first e))
 tick_no_name NHere e = absurd (omega (arith, ap first e))
 tick_no_name NSums e = absurd (omega (arith, ap first e))
+
+-- where something is left, and no number stands first, a line goes on behind its first word
+pub line_from : (line : Line) (bs : List ℕ) → bs ≢ [] → first_passes is_ascii_digit bs ≡ false → Stand (line_tokens line) bs [] → GoOn (take_while is_ascii_alphabetic bs) (line_tokens line) (behind is_ascii_alphabetic bs) []
+line_from Blank bs some none h = absurd (some h)
+line_from (Opening offices parcels) bs some none h = absurd (false≢true (sym none ∙ h.0.0))
+line_from (Call at call) bs some none h = h
+line_from (Bytes at bytes) bs some none h = h
+line_from (Tick at) bs some none h = h
+line_from AllTick bs some none h = h
+line_from (Letter n) bs some none h = h
+line_from AllLetters bs some none h = h
+line_from AllLettersLastFirst bs some none h = h
+
+-- and that word begins a line
+pub beginning_of : (line : Line) (w bs left : List ℕ) → GoOn w (line_tokens line) bs left → (b : Beginning) × (w ≡ beginning_word b)
+beginning_of Blank w bs left h = absurd h
+beginning_of (Opening offices parcels) w bs left h = absurd h
+beginning_of (Call at call) w bs left h = (BAt, h.0)
+beginning_of (Bytes at bytes) w bs left h = (BAt, h.0)
+beginning_of (Tick at) w bs left h = (BAt, h.0)
+beginning_of AllTick w bs left h = (BAll, h.0)
+beginning_of (Letter n) w bs left h = (BLetter, h.0)
+beginning_of AllLetters w bs left h = (BAll, h.0)
+beginning_of AllLettersLastFirst w bs left h = (BAll, h.0)
 
 -- where a call's name stands first, what goes on at an office is a call
 pub called : (line : Line) (n : CallName) (at : ℕ) (bs : List ℕ) → GoOnAt at line bs [] → take_while is_ascii_alphabetic bs ≡ name_word n → (call : ACall) × (line ≡ Call at call) × GoOn (name_word n) (call_tokens call) (behind is_ascii_alphabetic bs) []

@@ -1,6 +1,8 @@
 -- How each line and each call is written: the words, numbers and marks that stand one behind the other.
 use Rattle.std.specs.Prelude.{◌≡◌, ℕ, true, ◌⊎◌, List, [], ◌∷◌, codes, Ok, Err, Result}
 use Rattle.lines.specs.Tokens.{without_blanks, is_blank_line, Token, word, number, mark, Stand, byte_tokens}
+use Rattle.lines.specs.declared.Beginning.{Beginning}
+use Rattle.lines.specs.declared.Beginning.TheVariants.{At as BAt, All as BAll, Letter as BLetter}
 use Rattle.lines.specs.declared.CallName.{CallName}
 use Rattle.lines.specs.declared.CallName.TheVariants.{Accept as NAccept, Send as NSend, Slip as NSlip, Take as NTake, Hand as NHand, Pay as NPay, Where as NWhere, Here as NHere, Sums as NSums}
 use Rattle.lines.specs.declared.Deed.{Deed}
@@ -79,6 +81,12 @@ abbrev pub Reads : List ℕ → Result Line Fault → Type 0
 Reads bs r = (line : Line) → Says bs line → IsRead line r
 
 -- FOR THE READER'S OWN FUNCTIONS
+
+-- the first word of a line that begins with a word
+abbrev pub beginning_word : Beginning → List ℕ
+beginning_word BAt = codes "at"
+beginning_word BAll = codes "all"
+beginning_word BLetter = codes "letter"
 
 -- the first word of a call
 abbrev pub name_word : CallName → List ℕ

@@ -3,12 +3,13 @@
 
 ghost use Rattle.std.specs.Prelude.{◌≡◌, ◌≢◌, ◌↔◌, ◌⊎◌, ℕ, IsTrue, IfOk, IfErr, IfSome, IfNone, Ok, List, [], drop, codes};
 ghost use Rattle.lines.specs.Tokens.{is_blank_line, Stand};
-ghost use Rattle.lines.specs.Forms.{name_word, deed_word, way_tokens, slip_tokens, call_tokens, line_tokens, GoOn, GoOnAt, Says, IsNoLine, OnlyLine, IsRead, Reads};
+ghost use Rattle.lines.specs.Forms.{beginning_word, name_word, deed_word, way_tokens, slip_tokens, call_tokens, line_tokens, GoOn, GoOnAt, Says, IsNoLine, OnlyLine, IsRead, Reads};
 ghost use Rattle.lines.specs.Texts.{ReadsWritten};
+ghost use Rattle.lines.specs.declared.Beginning.{Beginning};
 ghost use Rattle.lines.specs.declared.CallName.{CallName};
 ghost use Rattle.lines.specs.declared.Deed.{Deed};
 ghost use Rattle.lines.specs.declared.Line.{Line};
-ghost use Rattle.lines.specs.declared.Line.TheVariants.{Blank, Opening};
+ghost use Rattle.lines.specs.declared.Line.TheVariants.{Blank, Opening, Letter};
 ghost use Rattle.lines.specs.declared.fault.Fault.TheVariants.{NoMemory};
 ghost use Rattle.parcels.specs.declared.Call.{Call};
 ghost use Rattle.parcels.specs.declared.Call.TheVariants.{Accept, Send, TakeIn};
@@ -69,6 +70,7 @@ fn read_whole(reader: &mut Reader) -> Result<Line, Fault>
 }
 
 // The line that begins here, where something is left to read.
+#[tactic(auto, using(crate::proofs::Said::line_from))]
 fn read_form(reader: &mut Reader) -> Result<Line, Fault>
     requires { reader.old ≢ [] }
     ensures value { IfOk result (λ line. Stand (line_tokens line) reader.old reader.new) }
@@ -77,17 +79,35 @@ fn read_form(reader: &mut Reader) -> Result<Line, Fault>
     if reader.at_number() {
         return read_opening(reader);
     }
-    match reader.word() {
-        b"at" => read_at(reader),
-        b"all" => read_all(reader),
-        b"letter" => {
-            let number = reader.number()?;
-            reader.expect("comes")?;
-            Ok(Line::Letter { number })
-        }
-        _ => Err(Fault::Expected(
+    match Beginning::read(reader.word()) {
+        Some(Beginning::At) => read_at(reader),
+        Some(Beginning::All) => read_all(reader),
+        Some(Beginning::Letter) => read_letter(reader),
+        None => Err(Fault::Expected(
             "a line such as '3 offices, 8 parcels', 'at 0: sums' or 'all letters come'",
         )),
+    }
+}
+
+// The first word of a line that begins with a word.
+#[derive(Clone, Copy)]
+enum Beginning {
+    At,
+    All,
+    Letter,
+}
+
+impl Beginning {
+    fn read(word: &[u8]) -> Option<Beginning>
+        ensures value { IfSome result (λ beginning. word.now ≡ beginning_word beginning) }
+        ensures only { IfNone result ((beginning : Beginning) → word.now ≢ beginning_word beginning) }
+    {
+        Some(match word {
+            b"at" => Beginning::At,
+            b"all" => Beginning::All,
+            b"letter" => Beginning::Letter,
+            _ => return None,
+        })
     }
 }
 
@@ -102,6 +122,16 @@ fn read_opening(reader: &mut Reader) -> Result<Line, Fault>
     let parcels = reader.number()?;
     reader.expect("parcels")?;
     Ok(Line::Opening { offices, parcels })
+}
+
+// What stands after 'letter': 0 comes
+fn read_letter(reader: &mut Reader) -> Result<Line, Fault>
+    ensures value { IfOk result (λ line. GoOn (codes "letter") (line_tokens line) reader.old reader.new) }
+    ensures reads { (number : ℕ) → GoOn (codes "letter") (line_tokens (Letter number)) reader.old [] → result ≡ Ok (Letter number) }
+{
+    let number = reader.number()?;
+    reader.expect("comes")?;
+    Ok(Line::Letter { number })
 }
 
 // What stands after 'all': clocks tick, letters come, or letters come, the last first
