@@ -1,5 +1,5 @@
 -- How a line is cut into tokens: words, numbers and marks.
-use Rattle.std.specs.Prelude.{◌≡◌, ℕ, ◌^◌, ◌<◌, Bool, true, false, ◌||◌, List, [], ◌∷◌, length, drop, ◌==◌}
+use Rattle.std.specs.Prelude.{◌≡◌, ℕ, ◌^◌, ◌<◌, Bool, true, false, ◌||◌, List, [], ◌∷◌, length, drop, ◌==◌, nat_le}
 use Rattle.std.specs.Char.{is_ascii_alphabetic, is_ascii_digit}
 use Rattle.std.specs.List.{prefix_len, take_while, starts_with}
 use Rattle.lines.specs.Decimal.{value_of}
@@ -16,6 +16,10 @@ first_passes test (b ∷ bs) = test b
 -- a blank: 32 is the byte ' ', 9 a tab, 13 a carriage return
 abbrev pub is_blank : ℕ → Bool
 is_blank b = b == 32 || (b == 9 || b == 13)
+
+-- a byte that is not ASCII
+abbrev pub is_foreign : ℕ → Bool
+is_foreign b = nat_le 128 b
 
 -- what is left without the blanks at the front
 abbrev pub without_blanks : List ℕ → List ℕ

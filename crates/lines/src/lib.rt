@@ -5,6 +5,7 @@ ghost use Rattle.std.specs.Prelude.{◌≡◌, ◌≢◌, ◌↔◌, ◌⊎◌, 
 ghost use Rattle.lines.specs.Tokens.{is_blank_line, Stand};
 ghost use Rattle.lines.specs.Forms.{beginning_word, name_word, deed_word, way_tokens, slip_tokens, call_tokens, line_tokens, GoOn, GoOnAt, Says, IsNoLine, OnlyLine, IsRead, Reads};
 ghost use Rattle.lines.specs.Texts.{ReadsWritten};
+ghost use Rattle.lines.specs.Faults.{name_example};
 ghost use Rattle.lines.specs.declared.Beginning.{Beginning};
 ghost use Rattle.lines.specs.declared.CallName.{CallName};
 ghost use Rattle.lines.specs.declared.Deed.{Deed};
@@ -83,9 +84,7 @@ fn read_form(reader: &mut Reader) -> Result<Line, Fault>
         Some(Beginning::At) => read_at(reader),
         Some(Beginning::All) => read_all(reader),
         Some(Beginning::Letter) => read_letter(reader),
-        None => Err(Fault::Expected(
-            "a line such as '3 offices, 8 parcels', 'at 0: sums' or 'all letters come'",
-        )),
+        None => Err(reader.no_line()),
     }
 }
 
@@ -116,6 +115,7 @@ fn read_opening(reader: &mut Reader) -> Result<Line, Fault>
     ensures value { IfOk result (λ line. Stand (line_tokens line) reader.old reader.new) }
     ensures reads { (offices parcels : ℕ) → Stand (line_tokens (Opening offices parcels)) reader.old [] → result ≡ Ok (Opening offices parcels) }
 {
+    reader.set_example("3 offices, 8 parcels");
     let offices = reader.number()?;
     reader.expect("offices")?;
     reader.expect_mark(",")?;
@@ -129,6 +129,7 @@ fn read_letter(reader: &mut Reader) -> Result<Line, Fault>
     ensures value { IfOk result (λ line. GoOn (codes "letter") (line_tokens line) reader.old reader.new) }
     ensures reads { (number : ℕ) → GoOn (codes "letter") (line_tokens (Letter number)) reader.old [] → result ≡ Ok (Letter number) }
 {
+    reader.set_example("letter 0 comes");
     let number = reader.number()?;
     reader.expect("comes")?;
     Ok(Line::Letter { number })
@@ -139,13 +140,14 @@ fn read_all(reader: &mut Reader) -> Result<Line, Fault>
     ensures value { IfOk result (λ line. GoOn (codes "all") (line_tokens line) reader.old reader.new) }
     ensures reads { (line : Line) → GoOn (codes "all") (line_tokens line) reader.old [] → result ≡ Ok line }
 {
+    reader.set_example("all clocks tick");
     match reader.word() {
         b"clocks" => {
             reader.expect("tick")?;
             Ok(Line::AllTick)
         }
         b"letters" => read_letters(reader),
-        _ => Err(Fault::Expected("'clocks' or 'letters'")),
+        _ => Err(reader.expected("'clocks' or 'letters'")),
     }
 }
 
@@ -154,7 +156,9 @@ fn read_letters(reader: &mut Reader) -> Result<Line, Fault>
     ensures value { IfOk result (λ line. GoOn (codes "letters") (drop 1 (line_tokens line)) reader.old reader.new) }
     ensures reads { (line : Line) → GoOn (codes "letters") (drop 1 (line_tokens line)) reader.old [] → result ≡ Ok line }
 {
+    reader.set_example("all letters come");
     reader.expect("come")?;
+    reader.set_example("all letters come, the last first");
     if !reader.take(",") {
         return Ok(Line::AllLetters);
     }
@@ -185,11 +189,15 @@ fn read_at_office(at: u32, reader: &mut Reader) -> Result<Line, Fault>
             Ok(Line::Call { at, call })
         }
         Some(Deed::Bytes) => {
+            reader.set_example("at 0: bytes 9 0 0 0 0");
             let bytes = reader.bytes()?;
             Ok(Line::Bytes { at, bytes })
         }
-        Some(Deed::Tick) => Ok(Line::Tick { at }),
-        None => Err(Fault::Expected(
+        Some(Deed::Tick) => {
+            reader.set_example("at 0: tick");
+            Ok(Line::Tick { at })
+        }
+        None => Err(reader.expected(
             "accept, send, slip, take in, hand out, pay, where is, here, sums, bytes or tick",
         )),
     }
@@ -248,6 +256,23 @@ impl CallName {
             _ => return None,
         })
     }
+
+    // A line with this call, to be shown where a line doesn't fit.
+    fn example(self) -> &'static str
+        ensures { result.now ≡ name_example self }
+    {
+        match self {
+            CallName::Accept => "at 0: accept for 2, 50",
+            CallName::Send => "at 0: send 0 to 1",
+            CallName::Slip => "at 0: slip 0",
+            CallName::Take => "at 1: take in 0: 1 0 1 2 50",
+            CallName::Hand => "at 1: hand out 0",
+            CallName::Pay => "at 0: pay 0",
+            CallName::Where => "at 0: where is 0",
+            CallName::Here => "at 1: here from 0",
+            CallName::Sums => "at 2: sums",
+        }
+    }
 }
 
 // The call with this first word, from what stands behind it.
@@ -255,6 +280,7 @@ fn read_call(name: CallName, reader: &mut Reader) -> Result<Call, Fault>
     ensures value { IfOk result (λ call. GoOn (name_word name) (call_tokens call) reader.old reader.new) }
     ensures reads { (call : Call) → GoOn (name_word name) (call_tokens call) reader.old [] → result ≡ Ok call }
 {
+    reader.set_example(name.example());
     match name {
         CallName::Accept => read_accept(reader),
         CallName::Send => read_send(reader),

@@ -1,13 +1,14 @@
 // Cuts a line into tokens: words (runs of letters), numbers (runs of digits) and marks.
-ghost use Rattle.std.specs.Prelude.{◌≡◌, ℕ, ◌+◌, ◌^◌, ◌<◌, ◌≤◌, ◌↔◌, Bool, false, List, [], drop, length, IsTrue, IsOk, IfOk, OnOk, MatchResult, ◌==◌, cond};
+ghost use Rattle.std.specs.Prelude.{◌≡◌, ℕ, ◌+◌, ◌^◌, ◌<◌, ◌≤◌, ◌↔◌, Bool, false, List, [], drop, length, IsTrue, IsOk, IfOk, OnOk, MatchBool, MatchResult, ◌==◌, cond, codes};
 ghost use Rattle.std.specs.Char.{is_ascii_alphabetic, is_ascii_digit};
 ghost use Rattle.std.specs.Fn.{FnReturnsAt};
 ghost use Rattle.std.specs.List.{prefix_len, take_while, starts_with};
 ghost use Rattle.std.specs.Option.{SomeIff};
 ghost use Rattle.std.specs.Result.{OkIff};
 ghost use Rattle.lines.specs.Decimal.{value_of};
-ghost use Rattle.lines.specs.Tokens.{AnswersAs, first_passes, is_blank, without_blanks, behind, first_number, HasNumberBelow, Stand, byte_tokens};
-ghost use Rattle.lines.specs.declared.fault.Fault.TheVariants.{NoMemory};
+ghost use Rattle.lines.specs.Tokens.{AnswersAs, first_passes, is_blank, is_foreign, without_blanks, behind, first_number, HasNumberBelow, Stand, byte_tokens};
+ghost use Rattle.lines.specs.Faults.{IsNotAscii, IsExpected, IsExpectedToken};
+ghost use Rattle.lines.specs.declared.fault.Fault.TheVariants.{NoLine, NoMemory};
 
 use crate::fault::Fault;
 use std::alloc::Global;
@@ -49,11 +50,33 @@ fn value_of(digits: &[u8]) -> Option<u32>
     Some(value)
 }
 
-// What is left of a line, and the heap for what is read from it.
+// What is said to be expected in place of these bytes, where a number should stand.
+fn number_for(rest: &[u8]) -> &'static str
+    ensures { result.now ≡ cond (first_passes (λ b. b == 45) rest.now) (codes "a number without a sign") (codes "a number") }
+{
+    match rest {
+        [b'-', ..] => "a number without a sign",
+        _ => "a number",
+    }
+}
+
+// The same where the line should end.
+fn end_for(rest: &[u8]) -> &'static str
+    ensures { result.now ≡ cond (first_passes (λ b. b == 35) rest.now) (codes "the end of the line (a comment has a line of its own)") (codes "the end of the line") }
+{
+    match rest {
+        [b'#', ..] => "the end of the line (a comment has a line of its own)",
+        _ => "the end of the line",
+    }
+}
+
+// What is left of a line, the heap for what is read from it, and what is shown where the line doesn't fit.
 #[derive(Drop)]
 pub struct Reader<'a> {
     heap: Global,
     rest: &'a [u8],
+    // A line of the form that this one has so far.
+    example: &'static str,
 }
 
 // What is left. No blank stands at its front.
@@ -72,7 +95,38 @@ impl<'a> Reader<'a> {
         Reader {
             heap,
             rest: without_blanks(line),
+            example: "at 0: sums",
         }
+    }
+
+    // Says what a line of the form looks like that this one has so far.
+    pub fn set_example(&mut self, example: &'static str)
+        ensures { self.new ≡ self.old }
+    {
+        self.example = example;
+    }
+
+    // What is said where no line begins as this one does.
+    pub fn no_line(&self) -> Fault
+        ensures { MatchBool (first_passes is_foreign self.now) (IsNotAscii result) (result ≡ NoLine) }
+    {
+        Fault::NoLine.at(self.rest, "3 offices, 8 parcels")
+    }
+
+    // What is said where something else is expected.
+    pub fn expected(&self, what: &'static str) -> Fault
+        ensures { MatchBool (first_passes is_foreign self.now) (IsNotAscii result) (IsExpected what.entry result) }
+    {
+        let example = self.example;
+        Fault::Expected { what, example }.at(self.rest, example)
+    }
+
+    // The same of a word or a mark.
+    fn expected_token(&self, token: &'static str) -> Fault
+        ensures { MatchBool (first_passes is_foreign self.now) (IsNotAscii result) (IsExpectedToken token.entry result) }
+    {
+        let example = self.example;
+        Fault::ExpectedToken { token, example }.at(self.rest, example)
     }
 
     // Whether nothing is left.
@@ -129,7 +183,7 @@ impl<'a> Reader<'a> {
         ensures after { self.new ≡ behind is_ascii_alphabetic self.old }
     {
         let found = self.word() == word.as_bytes();
-        found.then_some(()).ok_or(Fault::ExpectedToken(word))
+        found.then_some(()).ok_or(self.expected_token(word))
     }
 
     // Takes a mark if it stands next.
@@ -149,17 +203,15 @@ impl<'a> Reader<'a> {
         ensures value { IsOk result ↔ IsTrue (starts_with ◌==◌ self.old mark.now) }
         ensures after { OnOk result (self.new ≡ without_blanks (drop (length mark.now) self.old)) }
     {
-        self.take(mark)
-            .then_some(())
-            .ok_or(Fault::ExpectedToken(mark))
+        let found = self.take(mark);
+        found.then_some(()).ok_or(self.expected_token(mark))
     }
 
     pub fn end(&self) -> Result<(), Fault>
         ensures { IsOk result ↔ (self.now ≡ []) }
     {
-        self.at_end()
-            .then_some(())
-            .ok_or(Fault::Expected("the end of the line"))
+        let end = end_for(self.rest);
+        self.at_end().then_some(()).ok_or(self.expected(end))
     }
 
     pub fn number(&mut self) -> Result<u32, Fault>
@@ -168,7 +220,7 @@ impl<'a> Reader<'a> {
     {
         let digits = self.run(u8::is_ascii_digit);
         if digits.is_empty() {
-            return Err(Fault::Expected("a number"));
+            return Err(self.expected(number_for(self.rest)));
         }
         value_of(digits).ok_or(Fault::TooLarge)
     }
@@ -179,7 +231,7 @@ impl<'a> Reader<'a> {
         ensures shorter { OnOk result (length self.new < length self.old) }
     {
         let byte = self.number().ok().and_then(|n| u8::try_from(n).ok());
-        byte.ok_or(Fault::Expected("a byte from 0 to 255"))
+        byte.ok_or(self.expected("a byte from 0 to 255"))
     }
 
     // Takes bytes up to the line's end.

@@ -1,5 +1,5 @@
 -- How a world file is played, put together from what comes of each line.
-use Rattle.std.proofs.Common.{◌≡◌, ℕ, List, [], Some, None, Ok, Err, Option, Result, refl, ap, ◌∙◌, subst}
+use Rattle.std.proofs.Common.{◌≡◌, ℕ, List, [], Ok, Err, Result, inr, refl, ap, ◌∙◌, subst}
 use Rattle.std.specs.Result.{IsErrAnd}
 use Rattle.parcels.specs.Calls.{Limits}
 use Rattle.lines.specs.declared.fault.Fault.{Fault}
@@ -17,12 +17,15 @@ use Rattle.player.specs.declared.trouble.Trouble.{Trouble}
 use Rattle.player.specs.declared.trouble.Trouble.TheVariants.{Impossible}
 
 -- the first line that says something is bad, and so opens no world
-pub bad_first : {file a b : Text} (line : List ℕ) (read : Result Line Fault) (t : Trouble) (r : Result (Option World) Trouble) →
+pub bad_first : {file a b : Text} (line : List ℕ) (read : Result Line Fault) (t : Trouble) (r : Result World Trouble) →
     Passes file a → Takes a line b → ReadsAs line read → Begins read (Err t) → IsErrAnd r (λ e. e ≡ t) → OpensFile file r b
-bad_first line read t (Ok None) passed takes reads begins is = absurd is
-bad_first line read t (Ok (Some w)) passed takes reads begins is = absurd is
+bad_first line read t (Ok w) passed takes reads begins is = absurd is
 bad_first {a = a} line read t (Err e) passed takes reads begins is =
-    rw is (read, record { before = a; line = line; passed = passed; takes = takes; reads = reads }, begins)
+    rw is (inr (read, record { before = a; line = line; passed = passed; takes = takes; reads = reads }, begins))
+
+-- what passes up to a text passes up to the same text
+pub still_passes : {file a b : Text} → Passes file a → b ≡ a → Passes file b
+still_passes passed same = rw same passed
 
 -- one line more is done
 pub one_more : {l k : Limits} {a b c : At} → k ≡ l → Goes l a b → LineDone k b c → Goes l a c
@@ -55,7 +58,7 @@ bad_file t (Err e) opens is = rw is opens
 
 -- a file that opens a world is played as the world's lines are
 pub plays : {file a : Text} {w v : World} {r : Result (Unit {0}) Stop} {b : At} (budget n : ℕ) (shown : List ℕ) →
-    OpensFile file (Ok (Some w)) a → v ≡ w → n ≡ budget → shown ≡ [] → Runs (limits_of v) (record { text = a; budget = n; journal = journal_of v; shown = shown }) r b → PlaysWorld file budget (limits_of v) r b
+    OpensFile file (Ok w) a → v ≡ w → n ≡ budget → shown ≡ [] → Runs (limits_of v) (record { text = a; budget = n; journal = journal_of v; shown = shown }) r b → PlaysWorld file budget (limits_of v) r b
 plays {a = a} {w = w} {v = v} {r = r} {b = b} budget n shown opens same left nothing runs =
     let said : journal_of w ≡ [] = nothing_said opens.0 w opens.2 in
     let journal : journal_of v ≡ [] = ap journal_of same ∙ said in

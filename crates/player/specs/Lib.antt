@@ -5,3 +5,5 @@ pub mod Run
 pub mod Report
 pub mod Texts
 pub mod Program
+pub mod Arguments
+pub mod Help

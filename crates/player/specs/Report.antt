@@ -12,6 +12,7 @@ use Rattle.tracking.specs.Steps.{last_step}
 use Rattle.player.specs.Cut.{Text, whole}
 use Rattle.player.specs.Limits.{most_played_letters}
 use Rattle.player.specs.Run.{At, NoWorld, PlaysWorld}
+use Rattle.player.specs.Texts.{line_at_fault}
 use Rattle.player.specs.declared.trouble.Stop.{Stop}
 use Rattle.player.specs.declared.trouble.Stop.TheVariants.{BudgetSpent, TooManyLetters, Bad}
 use Rattle.player.specs.declared.trouble.Trouble.TheVariants.{Impossible}
@@ -33,7 +34,7 @@ Stops bytes line more (Err bad) all = (bad ≡ record { line = line; trouble = I
 -- the report of a run that ended so at this line, after it showed these bytes
 abbrev pub Concludes : Result (Unit {0}) Stop → ℕ → ℕ → List ℕ → Report → Type 0
 Concludes (Ok _) line budget bytes r = (r.end ≡ Ok Done) × (string_bytes r.shown ≡ bytes)
-Concludes (Err (Bad t)) line budget bytes r = (r.end ≡ Err (record { line = line; trouble = t })) × (string_bytes r.shown ≡ bytes)
+Concludes (Err (Bad t)) line budget bytes r = (r.end ≡ Err (record { line = line_at_fault t line; trouble = t })) × (string_bytes r.shown ≡ bytes)
 Concludes (Err BudgetSpent) line budget bytes r = Stops bytes line (stop_line budget (codes "things happened")) r.end (string_bytes r.shown)
 Concludes (Err TooManyLetters) line budget bytes r =
     Stops bytes line (stop_line most_played_letters (codes "letters were sent")) r.end (string_bytes r.shown)

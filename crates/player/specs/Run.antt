@@ -23,7 +23,7 @@ use Rattle.player.specs.declared.report.Playing.{Playing}
 use Rattle.player.specs.declared.trouble.Stop.{Stop}
 use Rattle.player.specs.declared.trouble.Stop.TheVariants.{BudgetSpent, TooManyLetters, Bad}
 use Rattle.player.specs.declared.trouble.Trouble.{Trouble}
-use Rattle.player.specs.declared.trouble.Trouble.TheVariants.{Unread, NotOpened, Impossible}
+use Rattle.player.specs.declared.trouble.Trouble.TheVariants.{Unread, NotOpened, NeverOpened, Impossible}
 
 -- what a line is read as, or why it can't be read: it is none, or memory is wanting
 abbrev pub ReadsAs : List ℕ → Result Line Fault → Type 0
@@ -61,11 +61,10 @@ Begins (Ok AllLetters) r = r ≡ Err NotOpened
 Begins (Ok AllLettersLastFirst) r = r ≡ Err NotOpened
 Begins (Err fault) r = r ≡ Err (Unread fault)
 
--- the world that a file opens, or why it opens none, with this text left: no world, where no line says something
-abbrev pub OpensFile : Text → Result (Option World) Trouble → Text → Type 0
-OpensFile file (Ok None) b = Passes file b × (b.rest ≡ [])
-OpensFile file (Ok (Some w)) b = (r : Result Line Fault) × First file r b × Begins r (Ok w)
-OpensFile file (Err t) b = (r : Result Line Fault) × First file r b × Begins r (Err t)
+-- the world that a file opens, or why it opens none, with this text left: no line says something, or the first that does is bad
+abbrev pub OpensFile : Text → Result World Trouble → Text → Type 0
+OpensFile file (Ok w) b = (r : Result Line Fault) × First file r b × Begins r (Ok w)
+OpensFile file (Err t) b = ((t ≡ NeverOpened) × Passes file b × (b.rest ≡ [])) ⊎ ((r : Result Line Fault) × First file r b × Begins r (Err t))
 
 -- where the playing of a file stands: the text that is left, how many things may still happen, what was handed to offices and
 -- answered, and what is shown
@@ -119,9 +118,9 @@ Ends l a (Err stop) b = (line : List ℕ) × Takes a.text line b.text × EndsWit
 abbrev pub Runs : Limits → At → Result (Unit {0}) Stop → At → Type 0
 Runs l a ran b = (m : At) × Goes l a m × Ends l m ran b
 
--- a file opens no world, and so playing it ends: no line says something, or the first that does is bad
+-- a file opens no world, and so playing it ends
 abbrev pub NoWorld : Text → Result (Unit {0}) Stop → Text → Type 0
-NoWorld file (Ok _) b = OpensFile file (Ok None) b
+NoWorld file (Ok _) b = ⊥
 NoWorld file (Err (Bad t)) b = OpensFile file (Err t) b
 NoWorld file (Err BudgetSpent) b = ⊥
 NoWorld file (Err TooManyLetters) b = ⊥
@@ -130,6 +129,6 @@ NoWorld file (Err TooManyLetters) b = ⊥
 pub record PlaysWorld (file : Text) (budget : ℕ) (l : Limits) (ran : Result (Unit {0}) Stop) (b : At) : Type 0 where
   pub opened : World
   pub behind : Text
-  pub opens : OpensFile file (Ok (Some opened)) behind
+  pub opens : OpensFile file (Ok opened) behind
   pub limits : l ≡ limits_of opened
   pub runs : Runs l (nothing_yet behind budget) ran b

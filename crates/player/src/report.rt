@@ -131,8 +131,8 @@ impl<'a> Playing<'a> {
         }
     }
 
-    // Opens the world that the first line that is not blank asks for. None where there is no such line.
-    fn open(&mut self) -> Result<Option<World>, Trouble>
+    // Opens the world that the first line that is not blank asks for.
+    fn open(&mut self) -> Result<World, Trouble>
         ensures value { OpensFile (text_of self.old.lines) result (text_of self.new.lines) }
         ensures budget { self.new.budget ≡ self.old.budget }
         ensures shown { self.new.shown ≡ self.old.shown }
@@ -144,12 +144,12 @@ impl<'a> Playing<'a> {
                     if !is_small(offices, parcels) {
                         return Err(CannotHappen::BadLimits.into());
                     }
-                    return Ok(Some(World::open(self.heap, offices, parcels)?));
+                    return Ok(World::open(self.heap, offices, parcels)?);
                 }
                 _ => return Err(Trouble::NotOpened),
             }
         }
-        Ok(None)
+        Err(Trouble::NeverOpened)
     }
 
     // Lets happen what the lines say, and writes the answers.
@@ -174,9 +174,7 @@ impl<'a> Playing<'a> {
         ensures value { ShowsAnswers (text_of self.old.lines) self.old.budget result (text_of self.new.lines) (string_bytes self.new.shown) }
         ensures budget { self.new.budget ≡ self.old.budget }
     {
-        let Some(world) = self.open()? else {
-            return Ok(());
-        };
+        let world = self.open()?;
         self.run(&mut Player::new(world, self.budget))
     }
 
@@ -186,9 +184,7 @@ impl<'a> Playing<'a> {
         ensures value { Locates (text_of self.old.lines) self.old.budget result (text_of self.new.lines) (string_bytes self.new.shown) }
         ensures budget { self.new.budget ≡ self.old.budget }
     {
-        let Some(world) = self.open()? else {
-            return Ok(());
-        };
+        let world = self.open()?;
         let mut player = Player::new(world, self.budget);
         let ran = self.run(&mut player);
         // the answers are not shown
@@ -201,7 +197,7 @@ impl<'a> Playing<'a> {
     fn conclude(mut self, ran: Result<(), Stop>) -> Report
         ensures { Concludes ran self.entry.lines.taken self.entry.budget (string_bytes self.entry.shown) result }
     {
-        let line = self.lines.number();
+        let taken = self.lines.number();
         let end = match ran {
             Ok(()) => Ok(End::Done),
             Err(Stop::TooManyLetters) => {
@@ -224,7 +220,10 @@ impl<'a> Playing<'a> {
         };
         Report {
             shown: self.shown,
-            end: end.map_err(|trouble| BadLine { line, trouble }),
+            end: end.map_err(|trouble| BadLine {
+                line: trouble.line(taken),
+                trouble,
+            }),
         }
     }
 }

@@ -3,9 +3,14 @@ use crate::shown::check;
 use player::{BUDGET, locate, play};
 use std::test::Fail;
 
-const NOT_OPENED: &str = "line 1: expected a line such as '3 offices, 8 parcels' first";
+const NOT_OPENED: &str =
+    "line 1: the offices are not open yet: expected a line such as '3 offices, 8 parcels' first";
 
-const LIMITS: &str = "line 1: expected 2 to 4 offices and at most 64 parcels";
+const LIMITS: &str =
+    "line 1: expected 2 to 4 offices and at most 64 parcels, as in '3 offices, 8 parcels'";
+
+const NEVER_OPENED: &str =
+    "the file ends before the offices are open: expected a line such as '3 offices, 8 parcels'";
 
 #[test]
 fn calls(rt: HostRuntime) -> Result<(), Fail> {
@@ -13,8 +18,6 @@ fn calls(rt: HostRuntime) -> Result<(), Fail> {
         &rt,
         |heap, file| play(heap, file, BUDGET),
         &[
-            (b"", ""),
-            (b"# nothing\n\n", ""),
             (b"2 offices, 0 parcels", ""),
             (
                 b"2 offices, 0 parcels\nat 0: accept for 1, 50\n",
@@ -85,7 +88,7 @@ fn rows_of_bytes(rt: HostRuntime) -> Result<(), Fail> {
             ),
             (
                 b"3 offices, 8 parcels\nat 1: bytes 3 0 0 0 0 1 0 0 0 0 0 0 0 1 0 0 0 2 0 0 0 50 0 0 0\n",
-                "line 2: a slip that was never given out",
+                "line 2: a slip that was never given out: an answer 'slip 0: 1 0 1 2 50' is taken in by 'take in 0: 1 0 1 2 50'",
             ),
             (
                 b"3 offices, 8 parcels\nat 1: bytes 3 0 0 0 0 1 0 0 0 0 0 0 0 1 0 0 0 2 0 0 0 50 0 0\n",
@@ -110,10 +113,36 @@ fn openings(rt: HostRuntime) -> Result<(), Fail> {
             (b"3 offices, 65 parcels", LIMITS),
             (
                 b"\n2 offices, 1 parcels\n3 offices, 8 parcels",
-                "line 3: the offices are open already",
+                "line 3: the offices are open already: another world has a file of its own",
             ),
         ],
     )
+}
+
+// Files that open no offices: the line is missing behind their last one.
+#[test]
+fn never_opened(rt: HostRuntime) -> Result<(), Fail> {
+    let heap = rt.alloc();
+    let files: [(&[u8], u8); 4] = [
+        (b"", 1),
+        (b"\n", 2),
+        (b"# nothing\n\n", 3),
+        (b"\n# nothing", 3),
+    ];
+    for (file, line) in files {
+        let expected = format!(in heap; "line {line}: {NEVER_OPENED}")?;
+        check(
+            &rt,
+            |heap, file| play(heap, file, BUDGET),
+            &[(file, expected.as_str())],
+        )?;
+        check(
+            &rt,
+            |heap, file| locate(heap, file, BUDGET),
+            &[(file, expected.as_str())],
+        )?;
+    }
+    Ok(())
 }
 
 #[test]
@@ -124,43 +153,43 @@ fn what_cannot_happen(rt: HostRuntime) -> Result<(), Fail> {
         &[
             (
                 b"3 offices, 8 parcels\nat 2: sums\nat 3: sums\nat 0: sums",
-                "0 0\nline 3: an office that is not there",
+                "0 0\nline 3: an office that is not there: offices are numbered from 0, so the last of 3 is 2",
             ),
             (
                 b"3 offices, 8 parcels\nat 3: tick",
-                "line 2: an office that is not there",
+                "line 2: an office that is not there: offices are numbered from 0, so the last of 3 is 2",
             ),
             (
                 b"3 offices, 8 parcels\nat 3: bytes",
-                "line 2: an office that is not there",
+                "line 2: an office that is not there: offices are numbered from 0, so the last of 3 is 2",
             ),
             (
                 b"3 offices, 8 parcels\nat 4294967295: sums",
-                "line 2: an office that is not there",
+                "line 2: an office that is not there: offices are numbered from 0, so the last of 3 is 2",
             ),
             (
                 b"3 offices, 8 parcels\nat 0: sums\nat 1: take in 0: 1 0 1 2 50\n",
-                "0 0\nline 3: a slip that was never given out",
+                "0 0\nline 3: a slip that was never given out: an answer 'slip 0: 1 0 1 2 50' is taken in by 'take in 0: 1 0 1 2 50'",
             ),
             (
                 b"3 offices, 8 parcels\nat 0: accept for 2, 50\nat 0: send 0 to 1\nat 1: take in 0: 1 0 1 2 51\n",
-                "0\nslip 0: 1 0 1 2 50\nline 4: a slip that was never given out",
+                "0\nslip 0: 1 0 1 2 50\nline 4: a slip that was never given out: an answer 'slip 0: 1 0 1 2 50' is taken in by 'take in 0: 1 0 1 2 50'",
             ),
             (
                 b"3 offices, 8 parcels\nat 3: take in 0: 1 0 1 2 50\n",
-                "line 2: an office that is not there",
+                "line 2: an office that is not there: offices are numbered from 0, so the last of 3 is 2",
             ),
             (
                 b"3 offices, 8 parcels\nletter 0 comes\n",
-                "line 2: a letter that was never sent",
+                "line 2: a letter that was never sent: offices send none yet",
             ),
             (
                 b"3 offices, 8 parcels\nat 0: pay 4294967296\n",
-                "line 2: a number that four bytes can't hold",
+                "line 2: a number that is too large: expected at most 4294967295",
             ),
             (
                 b"3 offices, 8 parcels\n\n# more\nat 0: sums 1\n",
-                "line 4: expected the end of the line",
+                "line 4: expected the end of the line, as in 'at 2: sums'",
             ),
         ],
     )
@@ -173,7 +202,6 @@ fn located(rt: HostRuntime) -> Result<(), Fail> {
         &rt,
         |heap, file| locate(heap, file, 4),
         &[
-            (b"", ""),
             (b"at 0: sums", NOT_OPENED),
             (b"3 offices, 8 parcels\nat 0: sums\nat 0: hand out 0\n", ""),
             (
@@ -190,11 +218,11 @@ fn located(rt: HostRuntime) -> Result<(), Fail> {
             ),
             (
                 b"3 offices, 8 parcels\nat 0: accept for 2, 50\nat 0: send 0 to 1\nat 1: take in 0: 1 0 1 2 51\nat 1: take in 0: 1 0 1 2 50\n",
-                "0: step 1, sent on at 0\nline 4: a slip that was never given out",
+                "0: step 1, sent on at 0\nline 4: a slip that was never given out: an answer 'slip 0: 1 0 1 2 50' is taken in by 'take in 0: 1 0 1 2 50'",
             ),
             (
                 b"3 offices, 8 parcels\nat 0: accept for 2, 50\nat 0: sends 0 to 1\n",
-                "0: step 0, accepted at 0\nline 3: expected accept, send, slip, take in, hand out, pay, where is, here, sums, bytes or tick",
+                "0: step 0, accepted at 0\nline 3: expected accept, send, slip, take in, hand out, pay, where is, here, sums, bytes or tick, as in 'at 0: sums'",
             ),
         ],
     )

@@ -6,4 +6,6 @@ mod budgets;
 #[cfg(test)]
 mod files;
 #[cfg(test)]
+mod programs;
+#[cfg(test)]
 mod shown;

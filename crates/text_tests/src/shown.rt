@@ -1,5 +1,5 @@
 // What a line was read as, as a text for the tables: each field by its name, or the fault.
-use lines::{Line, read_line};
+use lines::{Fault, Line, read_line};
 use parcels::Call;
 use std::alloc::{AllocError, Global};
 use std::fmt;
@@ -15,6 +15,21 @@ pub(crate) fn check_lines(
         assert_eq!(rt; show(rt.alloc(), line)?.as_str(), *expected);
     }
     Ok(())
+}
+
+// Checks that the example that is shown with a bad line is itself a line.
+pub(crate) fn check_example(rt: &(impl Abort + AllocGlobal), bad_line: &[u8]) -> Result<(), Fail> {
+    match read_line(rt.alloc(), bad_line) {
+        Err(
+            Fault::Expected { example, .. }
+            | Fault::ExpectedToken { example, .. }
+            | Fault::NotAscii { example },
+        ) => {
+            assert!(rt; read_line(rt.alloc(), example.as_bytes()).is_ok());
+            Ok(())
+        }
+        _ => Err(Fail::new("no example")),
+    }
 }
 
 pub(crate) fn show(heap: Global, line: &[u8]) -> Result<String, AllocError> {

@@ -19,7 +19,7 @@ fn tracked(heap: Global, world: &World, office: u32) -> Result<Vec<u32>, AllocEr
     Ok(keys)
 }
 
-// The office tells of these parcels, and of no others, by asking on from each answer; and each time, how many they are.
+// Whoever asks on from each answer is told of these parcels, of no others, and each time how many they are.
 fn check_shelf(rt: &impl Abort, world: &mut World, office: u32, keys: &[u32]) -> Result<(), Fail> {
     let count = keys.len() as u64;
     let mut from = 0;

@@ -1,7 +1,7 @@
-use Rattle.std.proofs.Common.{rules, Ok, Err, refl}
+use Rattle.std.proofs.Common.{rules, Ok, Err, inl, refl}
 use Rattle.lines.specs.declared.Line.TheVariants.{Opening}
 use Rattle.player.specs.Run.{none, blank, opened, too_large, refused}
-use Rattle.player.proofs.Run.{bad_first}
+use Rattle.player.proofs.Run.{bad_first, still_passes}
 use Rattle.player.proofs.report.Playing.open.Goals as goal
 
 pub loop-line-init : goal.loop-line-init
@@ -29,3 +29,6 @@ returns-in-Opening-clause-value c = (
   record { before = _; line = c.in-Some.line.now; passed = c.loop-line.invariant.passed; takes = search rules; reads = search rules },
   opened (search rules) (search rules),
 )
+
+pub returns-clause-value : goal.returns-clause-value
+returns-clause-value c = inl (refl, still_passes c.loop-line.invariant.passed (search rules), search rules)
