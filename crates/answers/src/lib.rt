@@ -42,9 +42,9 @@ impl fmt::Display for AnswerText {
     }
 }
 
-// A slip, to be written from its key on.
+// A slip, to be written from its key on, as a line that takes it in says it.
 #[derive(Clone, Copy)]
-struct SlipText(Slip);
+pub struct SlipText(pub Slip);
 
 impl fmt::Display for SlipText {
     ghost output = { λ x. Some (slip_text x.0) };

@@ -1,12 +1,13 @@
 // Lines as text, each in one form, of which `read_line` gives the same line back. Each Display is written by hand, since
 // its text is stated, and a derive states none.
 ghost use Rattle.std.specs.Prelude.{Some};
-ghost use Rattle.lines.specs.Forms.{slip_tokens, call_tokens};
+ghost use Rattle.lines.specs.Forms.{call_tokens};
 ghost use Rattle.lines.specs.Texts.{rest_text, tokens_text, line_text};
 ghost use Rattle.lines.specs.Tokens.{byte_tokens};
 
 use crate::Line;
-use parcels::{Call, Slip};
+use answers::SlipText;
+use parcels::Call;
 use std::fmt;
 
 impl fmt::Display for Line {
@@ -46,23 +47,6 @@ impl fmt::Display for CallText {
             Call::Here { from } => write!(f, "here from {from}"),
             Call::Sums => write!(f, "sums"),
         }
-    }
-}
-
-// A slip, from its key on.
-#[derive(Clone, Copy)]
-struct SlipText(Slip);
-
-impl fmt::Display for SlipText {
-    ghost output = { λ x. Some (tokens_text (slip_tokens x.0)) };
-
-    fn fmt<W: fmt::Write>(&self, f: &mut fmt::Formatter<W>) -> fmt::Result {
-        let slip = self.0;
-        write!(
-            f,
-            "{}: {} {} {} {} {}",
-            slip.key, slip.step, slip.from, slip.to, slip.dest, slip.amount
-        )
     }
 }
 
