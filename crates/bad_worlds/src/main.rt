@@ -2,7 +2,8 @@
 // which `play` ends with status 1 are run, and what is said of them is compared.
 #![tactic(auto)]
 
-use player::{BUDGET, play};
+use player::play;
+use programs::BUDGET;
 use std::{env, fs};
 
 fn show(rt: &HostRuntime, path: &str) -> anyhow::Result<()> {

@@ -1,7 +1,7 @@
 // Plays the world files that it is given, and prints an answer for each call.
 #![tactic(auto)]
 
-use player::{Play, Program};
+use programs::{Play, Program};
 use std::process::ExitCode;
 
 fn main(rt: HostRuntime) -> ExitCode {

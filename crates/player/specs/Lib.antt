@@ -4,6 +4,3 @@ pub mod Happen
 pub mod Run
 pub mod Report
 pub mod Texts
-pub mod Program
-pub mod Arguments
-pub mod Help

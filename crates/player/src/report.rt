@@ -22,9 +22,6 @@ use std::fmt::Write;
 use tracking::last_steps;
 use world::{CannotHappen, World};
 
-// How many things happen in a world at most.
-pub const BUDGET: u32 = 65_536;
-
 // The most offices of a world that is played, and the most parcels of each.
 const MAX_PLAYED_OFFICES: u32 = 4;
 

@@ -1,6 +1,7 @@
 // How many things happen at most.
 use crate::shown::check;
-use player::{BUDGET, play};
+use player::play;
+use programs::BUDGET;
 use std::test::Fail;
 
 #[test]

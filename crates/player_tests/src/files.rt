@@ -1,6 +1,7 @@
 // Files that can be played to their end, and files with a bad line.
 use crate::shown::check;
-use player::{BUDGET, locate, play};
+use player::{locate, play};
+use programs::BUDGET;
 use std::test::Fail;
 
 const NOT_OPENED: &str =

@@ -2,10 +2,10 @@
 #![tactic(auto)]
 
 #[cfg(test)]
+mod arguments;
+#[cfg(test)]
 mod budgets;
 #[cfg(test)]
 mod files;
-#[cfg(test)]
-mod programs;
 #[cfg(test)]
 mod shown;

@@ -1,6 +1,6 @@
 // What a world is read from.
 ghost use Rattle.std.specs.Prelude.{Some, string_bytes};
-ghost use Rattle.player.specs.Arguments.{IsSource, source_text};
+ghost use Rattle.programs.specs.Arguments.{IsSource, source_text};
 
 use crate::arguments::Argument;
 use std::io::Read;

@@ -1,6 +1,6 @@
 // What a program is asked for by its arguments.
 ghost use Rattle.std.specs.Prelude.{string_bytes};
-ghost use Rattle.player.specs.Arguments.{Asks, Means};
+ghost use Rattle.programs.specs.Arguments.{Asks, Means};
 
 // What one argument says.
 #[derive(Clone, Copy)]

@@ -1,6 +1,6 @@
 // What a program says of itself.
 ghost use Rattle.std.specs.Prelude.{Some};
-ghost use Rattle.player.specs.Help.{help_text};
+ghost use Rattle.programs.specs.Help.{help_text};
 
 use std::fmt;
 

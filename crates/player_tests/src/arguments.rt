@@ -1,6 +1,7 @@
 // What the programs say of themselves, and what their arguments ask for.
 use crate::shown::check;
-use player::{BUDGET, Locate, Play, Program, Request, locate, play, read_arguments};
+use player::{locate, play};
+use programs::{BUDGET, Locate, Play, Program, Request, read_arguments};
 use std::alloc::{AllocError, Global};
 use std::test::Fail;
 

@@ -1,7 +1,7 @@
 use Rattle.std.proofs.Common.{string_bytes}
 use Rattle.std.specs.List.{AllWithin}
-use Rattle.player.specs.Arguments.{NamesWorld}
-use Rattle.player.proofs.arguments.read_arguments.Given as goal
+use Rattle.programs.specs.Arguments.{NamesWorld}
+use Rattle.programs.proofs.arguments.read_arguments.Given as goal
 
 -- the arguments so far name worlds
 abbrev pub invariant-loop-place : goal.invariant-loop-place

@@ -1,18 +1,20 @@
 // The programs: what they do with the files that they are given.
 ghost use Rattle.std.specs.Prelude.{◌≡◌, ℕ, List, codes, string_bytes};
-ghost use Rattle.player.specs.Help.{IsHelp};
-ghost use Rattle.player.specs.Program.{failure_text};
+ghost use Rattle.programs.specs.Help.{IsHelp};
+ghost use Rattle.programs.specs.Program.{most_things, failure_text};
 ghost use Rattle.player.specs.Report.{Reports, ReportsPlaces};
 ghost use Rattle.player.specs.declared.report.Report.{Report};
-ghost use Rattle.player.specs.declared.report.TheConstants.{BUDGET};
 
 use crate::arguments::{Request, read_arguments};
 use crate::help::Help;
-use crate::report::{BUDGET, BadLine, End, Report, locate, play};
 use crate::source::Source;
+use player::{BadLine, End, Report, locate, play};
 use std::alloc::Global;
 use std::process::ExitCode;
 use std::{env, fmt, io};
+
+// How many things happen in a world at most.
+pub const BUDGET: u32 = 65_536;
 
 // Why a program ends with status 1.
 #[derive(Drop)]
@@ -126,7 +128,7 @@ impl Program for Play {
 
     ghost prints = { codes "    0\n    slip 0: 1 0 1 2 50" };
 
-    ghost reports = { λ file r. Reports file BUDGET r };
+    ghost reports = { λ file r. Reports file most_things r };
 
     fn name(&self) -> &'static str {
         "play"
@@ -156,7 +158,7 @@ impl Program for Locate {
 
     ghost prints = { codes "    0: step 1, sent on at 0" };
 
-    ghost reports = { λ file r. ReportsPlaces file BUDGET r };
+    ghost reports = { λ file r. ReportsPlaces file most_things r };
 
     fn name(&self) -> &'static str {
         "locate"

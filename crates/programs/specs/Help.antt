@@ -1,6 +1,6 @@
 -- What a program says of itself.
 use Rattle.std.specs.Prelude.{◌≡◌, ℕ, List, ◌++◌, codes, string_bytes}
-use Rattle.player.specs.declared.help.Help.{Help}
+use Rattle.programs.specs.declared.help.Help.{Help}
 
 -- the line that is typed in with the example's world, up to the program
 abbrev pub example_typed : List ℕ

@@ -2,12 +2,12 @@
 use Rattle.std.specs.Prelude.{◌≡◌, ◌≢◌, ℕ, ◌<◌, true, false, ◌⊎◌, List, [], length, ◌==◌, codes, string_bytes}
 use Rattle.std.specs.List.{All, AllWithin, HoldsAt}
 use Rattle.lines.specs.Tokens.{first_passes}
-use Rattle.player.specs.declared.arguments.Argument.{Argument}
-use Rattle.player.specs.declared.arguments.Argument.TheVariants.{Help as SaysHelp, StandardInput, UnknownOption as SaysUnknown, File}
-use Rattle.player.specs.declared.source.Source.{Source}
-use Rattle.player.specs.declared.source.Source.TheVariants.{StandardInput as FromInput, File as FromFile}
-use Rattle.player.specs.declared.arguments.Request.{Request}
-use Rattle.player.specs.declared.arguments.Request.TheVariants.{Nothing, Help, UnknownOption, Worlds}
+use Rattle.programs.specs.declared.arguments.Argument.{Argument}
+use Rattle.programs.specs.declared.arguments.Argument.TheVariants.{Help as SaysHelp, StandardInput, UnknownOption as SaysUnknown, File}
+use Rattle.programs.specs.declared.source.Source.{Source}
+use Rattle.programs.specs.declared.source.Source.TheVariants.{StandardInput as FromInput, File as FromFile}
+use Rattle.programs.specs.declared.arguments.Request.{Request}
+use Rattle.programs.specs.declared.arguments.Request.TheVariants.{Nothing, Help, UnknownOption, Worlds}
 
 -- what an argument says: 45 is the byte '-', with which each option begins
 abbrev pub Means : List ℕ → Argument → Type 0
