@@ -10,7 +10,7 @@ use Rattle.parcels.specs.declared.Call.{Call}
 use Rattle.parcels.specs.declared.Call.TheVariants.{Accept, Send, SlipAgain, TakeIn, HandOut, Pay, WhereIs, Here, Sums}
 use Rattle.wire.specs.Layout.{in_row, readable, call_bytes}
 use Rattle.wire.specs.declared.call.UnreadableCall.{UnreadableCall}
-use Rattle.wire.specs.Calls.{Reading, call_count, IsCall, FitsUntil, Reads, ReadsWritten, Tagged}
+use Rattle.wire.specs.Calls.{Reading, call_count, IsCall, FitsUntil, Reads, ReadsWritten, OnlyReading, Tagged}
 use Rattle.wire.proofs.Values.{length_in_row, same_values, values_of, values_held, next_value}
 
 -- how many values the call with this number has
@@ -112,6 +112,16 @@ no_number row none =
         no_longer = λ j more within (d, _, (rest, e)). begins_none d rest j more within e;
       },
     )
+
+-- a row of no bytes is no call, and ends at place 0
+pub no_bytes : (row : List ℕ) → length row ≡ 0 → Reads row (Err (unreadable_at 0))
+no_bytes row empty = no_number row (λ d some e. omega arith)
+
+pub no_bytes_written : (row : List ℕ) → length row ≡ 0 → ReadsWritten row (Err (unreadable_at 0))
+no_bytes_written row empty = reads_written row (Err (unreadable_at 0)) (no_bytes row empty)
+
+pub no_bytes_only : (row : List ℕ) → length row ≡ 0 → OnlyReading row (Err (unreadable_at 0))
+no_bytes_only row empty = λ s. one_reading row (Err (unreadable_at 0)) s (no_bytes row empty)
 
 number_small : (c : Call) → call_number c < call_count
 number_small c = search rules

@@ -7,7 +7,7 @@ use Rattle.wire.specs.Layout.{little_endian, in_row, Written}
 use Rattle.wire.proofs.Values.{length_little_endian, in_row_push}
 
 -- a part more
-and_part : {front before after : List ℕ} (i k : ℕ) (ys zs : List ℕ) → Written front before after i → ys ≡ zs → length zs ≡ k → Written (front ++ zs) before (put_mid i k after ys) (i + k)
+pub and_part : {front before after : List ℕ} (i k : ℕ) (ys zs : List ℕ) → Written front before after i → ys ≡ zs → length zs ≡ k → Written (front ++ zs) before (put_mid i k after ys) (i + k)
 and_part {front} {before} {after} i k ys zs w e long =
     record {
       count = omega (arith, w.count, length-append front zs);

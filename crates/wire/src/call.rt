@@ -81,6 +81,7 @@ fn read_tagged(first: u8, body: &[u8]) -> Result<Call, UnreadableCall>
 
 // Which call a row of bytes is; or the place of its first byte that doesn't fit, where the longest front that
 // some call begins with ends.
+#[tactic(auto, using(crate::proofs::CallReadings::no_bytes, crate::proofs::CallReadings::no_bytes_written, crate::proofs::CallReadings::no_bytes_only))]
 pub fn read_call(row: &[u8]) -> Result<Call, UnreadableCall>
     ensures value { Reads row.now result }
     ensures written { ReadsWritten row.now result }

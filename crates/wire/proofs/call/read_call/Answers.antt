@@ -1,16 +1,9 @@
-use Rattle.std.proofs.Common.{◌≡◌, ◌∷◌, ◌<◌, ℕ, List, length, Err, sym, subst, rules, arith}
+use Rattle.std.proofs.Common.{◌≡◌, ◌∷◌, ◌<◌, ℕ, List, sym, subst, rules, arith}
 use Rattle.std.specs.List.{All}
 use Rattle.std.proofs.lemmas.List.Elements.{All-from_get_or, All-rest}
 use Rattle.wire.specs.Calls.{Reads}
-use Rattle.wire.proofs.CallReadings.{unreadable_at, from_tagged, no_number, one_reading, reads_written}
+use Rattle.wire.proofs.CallReadings.{from_tagged, one_reading, reads_written}
 use Rattle.wire.proofs.call.read_call.Goals as goal
-
-pub returns-in_default : goal.returns-in_default
-returns-in_default c =
-    let row : List ℕ = c.args.row.now in
-    let empty : length row ≡ 0 = search rules in
-    let value : Reads row (Err (unreadable_at 0)) = no_number row (λ d some e. omega arith) in
-    record { value = value; written = reads_written row (Err (unreadable_at 0)) value; only = λ s. one_reading row (Err (unreadable_at 0)) s value }
 
 pub returns : goal.returns
 returns c =
