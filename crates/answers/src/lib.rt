@@ -4,6 +4,7 @@
 
 ghost use Rattle.std.specs.Prelude.{Some};
 ghost use Rattle.answers.specs.Texts.{kind_text, located_text, slip_text, answer_text};
+ghost use Rattle.answers.specs.Order.{MadeFromValues};
 
 use parcels::{Answer, Kind, Slip, Step};
 use std::fmt;
@@ -41,6 +42,11 @@ impl fmt::Display for AnswerText {
         }
     }
 }
+
+// An answer's text is made from the values that its bytes carry, in the same order: a theorem, with no code of its own.
+pub fn answers_are_made_from_values()
+    ensures { MadeFromValues }
+{}
 
 // A slip, to be written from its key on, as a line that takes it in says it.
 #[derive(Clone, Copy)]
