@@ -214,6 +214,8 @@ impl<'a> Reader<'a> {
         self.at_end().then_some(()).ok_or(self.expected(end))
     }
 
+    // (The hint is for lines of very many bytes.)
+    #[inline]
     pub fn number(&mut self) -> Result<u32, Fault>
         ensures value { OkIff result (HasNumberBelow (2 ^ 32) self.old) (first_number self.old) }
         ensures after { self.new ≡ behind is_ascii_digit self.old }
@@ -231,7 +233,8 @@ impl<'a> Reader<'a> {
         ensures shorter { OnOk result (length self.new < length self.old) }
     {
         let byte = self.number().ok().and_then(|n| u8::try_from(n).ok());
-        byte.ok_or(self.expected("a byte from 0 to 255"))
+        // by a closure, so that a fault is made only where one is shown: a line may have many bytes
+        byte.ok_or_else(|| self.expected("a byte from 0 to 255"))
     }
 
     // Takes bytes up to the line's end.

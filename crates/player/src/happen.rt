@@ -121,8 +121,19 @@ impl Player {
         Ok(())
     }
 
-    // Lets happen what a line says, and gives its answer, if it has one.
+    // Lets happen what a line says, and gives its answer, if it has one. (Blank lines first: a file may have very many.)
     pub fn happen(&mut self, line: Line) -> Result<Option<Answer>, Stop>
+        ensures value { Plays self.old.budget (limits_of self.old.world) (journal_of self.old.world) line result self.new.budget (journal_of self.new.world) }
+        ensures same { limits_of self.new.world ≡ limits_of self.old.world }
+    {
+        match line {
+            Line::Blank => Ok(None),
+            line => self.carry_out(line),
+        }
+    }
+
+    // The same of any line. It begins by making room for all that may happen, which a blank line doesn't need.
+    fn carry_out(&mut self, line: Line) -> Result<Option<Answer>, Stop>
         ensures value { Plays self.old.budget (limits_of self.old.world) (journal_of self.old.world) line result self.new.budget (journal_of self.new.world) }
         ensures same { limits_of self.new.world ≡ limits_of self.old.world }
     {

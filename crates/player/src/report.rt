@@ -65,11 +65,13 @@ fn is_small(offices: u32, parcels: u32) -> bool
     offices <= MAX_PLAYED_OFFICES && parcels <= MAX_PLAYED_PARCELS
 }
 
-// Writes an answer as a line, or nothing where there is no memory for all of it.
-fn show(heap: Global, answer: Answer, shown: &mut String) -> Result<(), Trouble>
+// Writes an answer as a line, or nothing where there is no memory for all of it. So it is written apart first, into a text
+// that serves for one answer after the other.
+fn show(answer: Answer, line: &mut String, shown: &mut String) -> Result<(), Trouble>
     ensures { MatchResult result (λ _. string_bytes shown.new ≡ string_bytes shown.old ++ answer_line (Some answer)) (λ e. (e ≡ Impossible NoMemory) × (string_bytes shown.new ≡ string_bytes shown.old)) }
 {
-    let line = format!(in heap; "{}\n", AnswerText(answer))?;
+    line.clear();
+    writeln!(line, "{}", AnswerText(answer))?;
     shown.push_str(line.as_str())?;
     Ok(())
 }
@@ -111,6 +113,8 @@ struct Playing<'a> {
     heap: Global,
     lines: Lines<'a>,
     budget: u32,
+    // the line of the answer that was shown last
+    answer: String,
     shown: String,
 }
 
@@ -124,6 +128,7 @@ impl<'a> Playing<'a> {
             heap,
             lines: Lines::new(file),
             budget,
+            answer: String::new(heap),
             shown: String::new(heap),
         }
     }
@@ -157,7 +162,7 @@ impl<'a> Playing<'a> {
     {
         while let Some(line) = self.lines.next() {
             if let Some(answer) = player.happen(read_line(self.heap, line)?)? {
-                show(self.heap, answer, &mut self.shown)?;
+                show(answer, &mut self.answer, &mut self.shown)?;
             }
             // a call may have sent letters, too: its answer is shown first
             player.count_letters()?;
